@@ -1,0 +1,4 @@
+pub mod Fronts
+pub mod Accepted
+pub mod Three
+pub mod Written

@@ -1,0 +1,5 @@
+pub mod Headed
+pub mod Lines
+pub mod Placed
+pub mod Reading
+pub mod Words
