@@ -1,0 +1,4 @@
+pub mod Expiry
+pub mod Lent
+pub mod Standing
+pub mod Thinning
