@@ -1,0 +1,2 @@
+mod LineByLine
+mod Printing

@@ -1,0 +1,9 @@
+// One sheet played on one meter: from the bytes of the sheet to the bytes that it prints.
+mod answer;
+mod events;
+mod playing;
+mod saying;
+#[cfg(test)]
+mod tests;
+
+pub use playing::play;
