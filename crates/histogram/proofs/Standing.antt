@@ -1,8 +1,8 @@
 -- A feed keeps what the slots stand for. From the laws of adding alone.
-use mathlib.Core.Path.{_≡_, refl, sym, ap, subst, _∙_}
+use mathlib.Core.Path.{_≡_, sym, ap, _∙_}
 use mathlib.Core.Bool.{Bool, cond, true, false}
 use mathlib.Core.List.{List, [], _∷_, _++_, map}
-use Prim.Native.Nat.{ℕ, zero, suc, _+_, _-_, _≤_, _<_}
+use Prim.Native.Nat.{ℕ, zero, suc, _+_, _-_, _≤_}
 use native.Mathlib.Omega.{arith}
 use lib.Dec.{leb}
 use lib.ListN.{length, drop, length-append}
@@ -11,7 +11,7 @@ use Rattle.std.proofs.shelf.Elements.{all-drop, all-append, all-map, all-weaker
 use Rattle.std.proofs.shelf.Lists.{drop-append-le, drop-at}
 use Rattle.statistic.specs.Model.{Model, Admitted, Laws}
 use Rattle.histogram.specs.declared.slot.Slot.{Slot}
-use Rattle.histogram.specs.Method.{with-item, empty-slot, grown, onward, anchored, thinned, pruned, unexpired, near, fed}
+use Rattle.histogram.specs.Method.{with-item, empty-slot, grown, onward, anchored, pruned, unexpired, near, fed}
 use Rattle.histogram.specs.Stands.{from, StandsFor, Stands}
 
 -- thinning and expiry only take slots away
@@ -27,12 +27,12 @@ all-unexpired P w (s ∷ []) h = h
 all-unexpired P w (s ∷ t ∷ ts) h = elim (leb (t .start) w) as (λ b. All P (cond b (unexpired w (t ∷ ts)) (s ∷ t ∷ ts))) [ true ↦ all-unexpired P w (t ∷ ts) (h .1) | false ↦ h ]
 
 module _ {I S : Type 0} (m : Model I S) where
-  pub admitted-drop : (n : ℕ) (A : List I) → Admitted m A → Admitted m (drop n A)
+  admitted-drop : (n : ℕ) (A : List I) → Admitted m A → Admitted m (drop n A)
   admitted-drop zero A h = h
   admitted-drop (suc n) [] h = tt
   admitted-drop (suc n) (x ∷ A) h = admitted-drop n A (h .1)
 
-  pub admitted-append : (A B : List I) → Admitted m A → Admitted m B → Admitted m (A ++ B)
+  admitted-append : (A B : List I) → Admitted m A → Admitted m B → Admitted m (A ++ B)
   admitted-append [] B h k = k
   admitted-append (x ∷ A) B h k = (h .0, admitted-append A B (h .1) k)
 

@@ -10,7 +10,8 @@ use Rattle.std.specs.shelf.Lists.{leading}
 use Rattle.std.proofs.shelf.Lists.{take-at, take-take, length-take-le, drop-more, drop-drop}
 use Rattle.std.specs.declared.option.Option.{Option}
 use Rattle.std.specs.declared.option.Option.the-variants.{Some, None}
-use Rattle.histogram.specs.Method.{onward, anchored, thinned}
+use Rattle.histogram.specs.Method.{anchored, thinned}
+use Rattle.histogram.proofs.Thinned.{none-left}
 
 -- Two lists that are the same from a place on are so from the next place on, and the element there is the next of both.
 module _ {X : Type 0} (xs ys : List X) (i : ℕ) (same : drop i ys ≡ drop i xs) where
@@ -33,23 +34,19 @@ module _ {X : Type 0} (told : X → ℕ) (close : ℕ → ℕ → Bool) where
   behind a None (x ∷ r) = cond (close a (told x)) (behind a (Some x) r) (x ∷ behind (told x) None r)
   behind a (Some c) (x ∷ r) = cond (close a (told x)) (behind a (Some x) r) (c ∷ cond (near c x) (behind (told c) (Some x) r) (x ∷ behind (told x) None r))
 
-  none-left : (n : ℕ) → anchored near n [] ≡ []
-  none-left zero = refl
-  none-left (suc n) = refl
-
   -- enough rounds for the elements behind an anchor
   abbrev Enough : ℕ → Type 0
   Enough n = (c : X) (ts : List X) → length ts ≤ n → anchored near (suc n) (c ∷ ts) ≡ c ∷ behind (told c) None ts
 
   holding : (n : ℕ) → Enough n → (a c : X) (r : List X) → length r ≤ n → anchored near (suc n) (drop (leading (near a) r) (c ∷ r)) ≡ behind (told a) (Some c) r
-  holding n ih a c [] h = ap (λ l. c ∷ l) (none-left n)
+  holding n ih a c [] h = ap (λ l. c ∷ l) (none-left near n)
   holding n ih a c (x ∷ r) h =
       elim (near a x)
       as (λ b. anchored near (suc n) (drop (cond b (1 + leading (near a) r) 0) (c ∷ x ∷ r)) ≡ cond b (behind (told a) (Some x) r) (c ∷ behind (told c) None (x ∷ r)))
       [ true ↦ rw one-add (holding n ih a x r (omega arith)) | false ↦ ih c (x ∷ r) h ]
 
   enough : (n : ℕ) → Enough n
-  enough n c [] h = ap (λ l. c ∷ l) (none-left n)
+  enough n c [] h = ap (λ l. c ∷ l) (none-left near n)
   enough zero c (x ∷ r) h = absurd (omega arith)
   enough (suc n) c (x ∷ r) h =
       let next : 1 + leading (near c) r - 1 ≡ leading (near c) r = omega arith in

@@ -59,7 +59,7 @@ module _ {I S : Type 0} (m : Model I S) where
 abbrev pub window-start : ℕ → ℕ → ℕ
 window-start window now = (now - window) + 1
 
--- while a second slot exists that starts at or before w, the first slot is dropped
+-- the first slot goes as long as the one behind it covers the whole window too, that is, starts at or before w
 abbrev pub unexpired : {S : Type 0} → ℕ → List (Slot S) → List (Slot S)
 unexpired w [] = []
 unexpired w (s ∷ []) = s ∷ []

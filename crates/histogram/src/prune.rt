@@ -2,7 +2,8 @@
 ghost use mathlib.Core.Path.{_≡_};
 ghost use Prim.Native.Nat.{_≤_};
 ghost use lib.ListN.{length, take};
-ghost use Rattle.histogram.specs.Method.{near-values, pruned};
+ghost use Rattle.histogram.specs.Method.{near-values, near as near-slots, pruned};
+ghost use Rattle.histogram.specs.Thins.{Thins};
 use crate::slot::Slot;
 use statistic::Statistic;
 
@@ -18,6 +19,7 @@ pub(crate) fn prune<T: Statistic>(slots: &mut [Slot<T::State>], loss: u32) -> us
     ensures within { λ r. ⌜ r ≤ length (now (slots .entry)) ⌝ }
     ensures left { λ r. ⌜ r ≡ length (pruned (T·Statistic .model) loss (now (slots .entry))) ⌝ }
     ensures kept { λ r. ⌜ take r (now (slots .exit)) ≡ pruned (T·Statistic .model) loss (now (slots .entry)) ⌝ }
+    ensures thins { λ r. ⌜ Thins (near-slots (T·Statistic .model) loss) (now (slots .entry)) (take r (now (slots .exit))) ⌝ }
 {
     if slots.is_empty() {
         return 0;

@@ -1,7 +1,7 @@
 -- A take, as the method sees it: what a running meter is to its caller. A reader must believe that these definitions say
 -- what the calls of a running meter answer and leave.
 use mathlib.Core.Path.{_≡_}
-use mathlib.Core.Bool.{Bool, cond}
+use mathlib.Core.Bool.{cond}
 use mathlib.Core.List.{List, [], _∷_, _++_}
 use Prim.Native.Nat.{ℕ, _+_, _^_}
 use lib.Dec.{ltb}

@@ -10,11 +10,11 @@ use statistic::Statistic;
 // How a mark stands to a reading.
 #[derive(Clone, Copy, PartialEq, Eq, Debug)]
 pub enum Verdict {
-    // the window's value is at least the mark
+    // low is at least the mark
     Above,
-    // the window's value is less than the mark
+    // high is less than the mark
     Below,
-    // the reading does not tell
+    // the mark lies between
     Open,
 }
 
@@ -26,7 +26,7 @@ impl<'a, T: Statistic> Running<'a, T> {
         reading::<T>(self.kept_slots(), self.window_start())
     }
 
-    // Is the window's value at least the mark, or less, as far as the reading tells?
+    // How does the mark stand to the reading?
     pub fn judge(&self, mark: u64) -> Verdict
         ensures { λ r. ⌜ r ≡ judged mark (read (T·Statistic .model) (view (now (self .entry)))) ⌝ }
     {

@@ -1,6 +1,6 @@
 // Feeding a running meter.
 ghost use mathlib.Core.Path.{_≡_};
-ghost use mathlib.Core.Bool.{true, false, not};
+ghost use mathlib.Core.Bool.{true, false};
 ghost use mathlib.Core.List.{List, [], _∷_, _++_};
 ghost use Prim.Native.Nat.{_+_, _^_, _<_};
 ghost use lib.Dec.{ltb};
@@ -22,7 +22,8 @@ impl<'a, T: Statistic> Running<'a, T> {
         ensures answer { λ r. ⌜ r ≡ feed-answer (T·Statistic .model) (view (now (self .entry))) item ⌝ }
         ensures after { λ _. ⌜ view (now (self .exit)) ≡ after-feed (T·Statistic .model) (view (now (self .entry))) item ⌝ }
         ensures preset { λ _. ⌜ now (self .exit) .preset ≡ now (self .entry) .preset ⌝ }
-        ensures refused { λ r. ⌜ (isOk r ≡ false → now (now (self .exit) .slots) ≡ now (now (self .entry) .slots)) ⌝ }
+        ensures count { λ r. ⌜ (isOk r ≡ true → now (self .exit) .kept ≡ length (view (now (self .exit)) .kept)) ⌝ }
+        ensures refused { λ r. ⌜ (isOk r ≡ false → now (self .exit) ≡ now (self .entry)) ⌝ }
         ensures takes { λ r. ⌜ ((items : List T·Item) → Takes (T·Statistic .model) items (view (now (self .entry))) → Takes (T·Statistic .model) (items-after items item r) (view (now (self .exit)))) ⌝ }
     {
         if !T::admits(item) {
@@ -53,6 +54,7 @@ impl<'a, T: Statistic> Running<'a, T> {
         ensures answer { λ r. ⌜ r ≡ now (self .entry) .now + 1 ⌝ }
         ensures after { λ _. ⌜ view (now (self .exit)) ≡ accepted (T·Statistic .model) (view (now (self .entry))) item ⌝ }
         ensures preset { λ _. ⌜ now (self .exit) .preset ≡ now (self .entry) .preset ⌝ }
+        ensures count { λ _. ⌜ now (self .exit) .kept ≡ length (view (now (self .exit)) .kept) ⌝ }
         ensures takes { λ _. ⌜ ((items : List T·Item) → Takes (T·Statistic .model) items (view (now (self .entry))) → Takes (T·Statistic .model) (items ++ item ∷ []) (view (now (self .exit)))) ⌝ }
     {
         let kept = self.kept;

@@ -1,5 +1,6 @@
 // The meter: stopped and running, as two types. A stopped meter takes a preset and no item, a running one takes items and no
 // preset. This file holds the types; `takes`, `feeding` and `answers` have their calls.
+ghost use mathlib.Core.Path.{_≡_};
 use histogram::Slot;
 use preset::Preset;
 use statistic::Statistic;
@@ -26,9 +27,11 @@ pub struct Running<'a, T: Statistic> {
     preset: Preset,
 }
 
-// A meter may be let go at any time: its slots are their owner's again.
+// A meter may be let go at any time: its slots are their owner's again, as they are.
 impl<'a, T: Statistic> Drop for Stopped<'a, T> {
-    fn drop(self) {
+    fn drop(self)
+        ensures { λ _. ⌜ now (self .exit .0) ≡ now (self .entry .slots) ⌝ }
+    {
         let Stopped {
             slots: _,
             preset: _,
@@ -37,7 +40,9 @@ impl<'a, T: Statistic> Drop for Stopped<'a, T> {
 }
 
 impl<'a, T: Statistic> Drop for Running<'a, T> {
-    fn drop(self) {
+    fn drop(self)
+        ensures { λ _. ⌜ now (self .exit .0) ≡ now (self .entry .slots) ⌝ }
+    {
         let Running {
             slots: _,
             kept: _,

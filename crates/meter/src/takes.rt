@@ -11,12 +11,12 @@ use preset::Preset;
 use statistic::Statistic;
 
 impl<'a, T: Statistic> Stopped<'a, T> {
-    // A meter over the slots given, of any count and content, with window 1 and loss 500.
+    // A meter over these slots, however many there are and whatever they hold, with window 1 and loss 500.
     pub fn make(slots: &'a mut [Slot<T::State>]) -> Stopped<'a, T>
         ensures preset { λ r. ⌜ numbers (r .preset) ≡ (1, 500) ⌝ }
         ensures slots { λ r. ⌜ now (r .slots) ≡ now (slots .entry) ⌝ }
     {
-        let preset = Preset::first();
+        let preset = first_preset();
         Stopped { preset, slots }
     }
 
@@ -32,6 +32,7 @@ impl<'a, T: Statistic> Stopped<'a, T> {
     pub fn start(self) -> Running<'a, T>
         ensures begins { λ r. ⌜ view r ≡ begun (length (now (self .entry .slots))) (numbers (self .entry .preset)) ⌝ }
         ensures preset { λ r. ⌜ r .preset ≡ self .entry .preset ⌝ }
+        ensures count { λ r. ⌜ r .kept ≡ 0 ⌝ }
         ensures slots { λ r. ⌜ now (r .slots) ≡ now (self .entry .slots) ⌝ }
         ensures takes { λ r. ⌜ Takes (T·Statistic .model) [] (view r) ⌝ }
     {
@@ -58,5 +59,15 @@ impl<'a, T: Statistic> Running<'a, T> {
             preset,
         } = self;
         Stopped { slots, preset }
+    }
+}
+
+// The preset of a meter that was just made.
+fn first_preset() -> Preset
+    ensures { λ r. ⌜ numbers r ≡ (1, 500) ⌝ }
+{
+    match Preset::new(1, 500) {
+        Ok(preset) => preset,
+        Err(_) => unreachable(),
     }
 }

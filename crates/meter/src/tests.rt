@@ -91,7 +91,7 @@ fn a_take_ends_at_its_last_position() -> Result<(), Fail> {
         slots: &mut slots,
         kept: 0,
         now: (1 << 40) - 1,
-        preset: Preset::first(),
+        preset: Preset::new(1, 500)?,
     };
     check_eq(meter.feed(1), Ok(1 << 40))?;
     check_eq(meter.feed(1), Err(Refusal::TakeAtLastPosition))?;

@@ -6,4 +6,6 @@ mod saying;
 #[cfg(test)]
 mod tests;
 
+pub use playing::MOST_BYTES;
+pub use playing::bytes_enough;
 pub use playing::play;

@@ -1,11 +1,9 @@
 // Printing an answer at the end of what is printed.
 ghost use mathlib.Core.Path.{_≡_};
-ghost use mathlib.Core.List.{_++_};
 ghost use Prim.Native.Nat.{_≤_};
 ghost use lib.ListN.{length};
-ghost use Rattle.std.specs.Of.Vec.{vec-items};
-ghost use Rattle.std.specs.Vec.{made};
 ghost use Rattle.text.specs.Shown.{placed};
+ghost use Rattle.player.specs.Room.{Prints};
 ghost use Rattle.player.specs.Sheet.{said};
 use crate::answer::Answer;
 use refusal::Refusal;
@@ -15,7 +13,7 @@ use sheet::write_verdict;
 use std::alloc::AllocError;
 
 pub(crate) fn say(answer: Answer, out: &mut Vec<u8>) -> Result<(), AllocError>
-    ensures { λ r. ⌜ made r (λ _. vec-items (now (out .exit)) ≡ vec-items (now (out .entry)) ++ said answer) ⌝ }
+    ensures { λ r. ⌜ Prints (now (out .entry)) (now (out .exit)) (said answer) r ⌝ }
 {
     let mut line = [0u8; 64];
     let len = write_answer(answer, &mut line).unwrap_or(0);

@@ -1,9 +1,11 @@
 // Whole sheets: each refusal that a sheet can come to, the ends of a sheet, and a take that begins anew.
+use crate::MOST_BYTES;
 use crate::play;
 use std::test::*;
 
 fn prints(rt: &LibcRuntime, sheet: &[u8], wanted: &[u8]) -> Result<(), Fail> {
-    let printed = play(rt.alloc(), sheet)?;
+    let mut printed = Vec::new(rt.alloc());
+    play(sheet, &mut printed)?;
     check(printed.as_slice() == wanted)
 }
 
@@ -37,7 +39,11 @@ fn what_is_no_event_ends_the_sheet(rt: LibcRuntime) -> Result<(), Fail> {
         b"kind=energy\nwindow=4\nloss=500\nm=0\nr=",
         b"mark=above\nrefused=10\n",
     )?;
-    prints(&rt, b"kind=energy\nwindow=4\nloss=500\nr=\r\n", b"refused=10\n")
+    prints(
+        &rt,
+        b"kind=energy\nwindow=4\nloss=500\nr=\r\n",
+        b"refused=10\n",
+    )
 }
 
 #[test]
@@ -50,8 +56,27 @@ fn a_restart_forgets_the_take(rt: LibcRuntime) -> Result<(), Fail> {
 }
 
 #[test]
-fn a_sheet_has_at_most_65536_bytes(rt: LibcRuntime) -> Result<(), Fail> {
-    let bytes = [b'\n'; 65_537];
-    prints(&rt, &bytes[0..65_536], b"refused=7\n")?;
-    prints(&rt, &bytes, b"refused=12\n")
+fn bytes_that_are_no_text(rt: LibcRuntime) -> Result<(), Fail> {
+    prints(&rt, b"\xff\n\n\n", b"refused=7\n")?;
+    prints(
+        &rt,
+        b"kind=peak\nwindow=4\nloss=500\n\xff\n",
+        b"refused=10\n",
+    )
+}
+
+// A header of 28 bytes and 21,836 events are 65,536 bytes. Each reading is 13 bytes.
+#[test]
+fn the_longest_sheet_and_one_byte_more(rt: LibcRuntime) -> Result<(), Fail> {
+    let mut sheet = Vec::new(rt.alloc());
+    sheet.extend_from_slice(b"kind=peak\nwindow=4\nloss=500\n")?;
+    for _ in 0..21_836 {
+        sheet.extend_from_slice(b"r=\n")?;
+    }
+    check(sheet.len() == MOST_BYTES)?;
+    let mut printed = Vec::new(rt.alloc());
+    play(&sheet, &mut printed)?;
+    check(printed.len() == 283_868)?;
+    sheet.push(b'\n')?;
+    prints(&rt, &sheet, b"refused=12\n")
 }

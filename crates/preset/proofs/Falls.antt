@@ -1,6 +1,6 @@
 -- A fall at a proper fraction lowers v, so `steps` counts the falls whatever its limit.
-use mathlib.Core.Path.{_≡_, refl, sym, ap, _∙_}
-use Prim.Native.Nat.{ℕ, zero, suc, _+_, _-_, _*_, _/_, _<_, _≤_}
+use mathlib.Core.Path.{_≡_, refl, ap, _∙_}
+use Prim.Native.Nat.{ℕ, zero, suc, _+_, _-_, _*_, _<_, _≤_}
 use native.Mathlib.Omega.{arith}
 use native.Mathlib.Nat.{mul-comm, mul-pos, mul-le-mul-right, div-lt-iff-lt-mul}
 use Rattle.preset.specs.Wanted.{fall, fallen, steps-within, steps, Counts, Proper}

@@ -1,6 +1,6 @@
 // The calls that build a preset, change it and tell what it holds. Every preset passes the questions of `new`.
 ghost use mathlib.Core.Path.{_≡_};
-ghost use Rattle.preset.specs.Questions.{asked, plain, view};
+ghost use Rattle.preset.specs.Questions.{asked, plain};
 use crate::Preset;
 use refusal::Refusal;
 
@@ -16,16 +16,6 @@ impl Preset {
             return Err(Refusal::LossOutOfRange);
         }
         Ok(Preset { window, loss })
-    }
-
-    // The preset of a meter that was just made.
-    pub fn first() -> Preset
-        ensures { λ r. ⌜ view r ≡ (1, 500) ⌝ }
-    {
-        Preset {
-            window: 1,
-            loss: 500,
-        }
     }
 
     // The same loss over another window.

@@ -37,7 +37,7 @@ fn the_edges_of_both_ranges() -> Result<(), Fail> {
 
 #[test]
 fn one_field_is_changed_by_the_same_questions() -> Result<(), Fail> {
-    let first = Preset::first();
+    let first = Preset::new(1, 500)?;
     check_eq(first.with_window(8)?.window(), 8)?;
     check_eq(first.with_loss(20)?.window(), 1)?;
     check(first.with_window(0).is_err())?;

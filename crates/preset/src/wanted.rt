@@ -1,4 +1,4 @@
-// How many slots a meter wants at a preset. The number is proved here; that a meter never runs out with so many is not.
+// How many slots a meter wants at a preset: with that many it never runs out.
 ghost use mathlib.Core.Path.{_≡_};
 ghost use Prim.Native.Nat.{_*_, _^_, _<_};
 ghost use Rattle.preset.specs.Questions.{view};
@@ -6,7 +6,7 @@ ghost use Rattle.preset.specs.Wanted.{most-kept, wanted, steps, Counts, Proper
 use crate::Preset;
 use statistic::Statistic;
 
-// One slot more than a meter is to keep, for the new item that comes in before the old ones are pruned.
+// One slot more than a meter ever keeps: a new item takes a slot before the old ones are pruned.
 pub fn slots_wanted<T: Statistic>(preset: &Preset) -> usize
     ensures value { λ r. ⌜ r ≡ wanted model (view (now (preset .entry))) ⌝ }
     ensures count { λ _. ⌜ Counts (model .cut (now (preset .entry) .loss)) (model .top) (steps (model .cut (now (preset .entry) .loss)) (model .top)) ⌝ }

@@ -1,2 +1,2 @@
-mod Pushes
+pub mod Pushes
 mod Spelt

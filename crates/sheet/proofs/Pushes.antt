@@ -6,12 +6,11 @@ use native.Mathlib.Omega.{arith}
 use lib.ListN.{length, take, length-append}
 use Rattle.std.proofs.shelf.Decimals.{length-decimal-le}
 use Rattle.std.proofs.shelf.Lists.{take-all}
-use Rattle.std.specs.Written.{decimal}
 use Rattle.text.proofs.Fronts.{front-front}
 use Rattle.sheet.specs.Answers.{word-line, number-line}
 
 -- two pushes are one
-pub two-pushes : (s t u a b : List ℕ) → t ≡ take 64 (s ++ a) → u ≡ take 64 (t ++ b) → u ≡ take 64 (s ++ (a ++ b))
+two-pushes : (s t u a b : List ℕ) → t ≡ take 64 (s ++ a) → u ≡ take 64 (t ++ b) → u ≡ take 64 (s ++ (a ++ b))
 two-pushes s t u a b p q = q ∙ ap (λ l. take 64 (l ++ b)) p ∙ front-front 64 (s ++ a) b ∙ ap (take 64) (append-assoc s a b)
 
 -- a push onto no bytes

@@ -1,5 +1,5 @@
 -- Event lines. A reader must believe that `event-of` tells which lines are events, and which events they are.
-use mathlib.Core.Bool.{cond, _&&_}
+use mathlib.Core.Bool.{cond}
 use mathlib.Core.List.{List}
 use Prim.Native.Nat.{ℕ}
 use lib.Dec.{eqb}

@@ -1,7 +1,7 @@
 -- What a statistic is, and the laws that it keeps. The meter is proved against this file alone, so a reader must believe
 -- that `Laws` says what a statistic is meant to keep: no law more, no law fewer.
 --
--- Lists of items run from the oldest item to the newest. Every law speaks of admitted items only.
+-- Lists of items run from the oldest item to the newest. All laws but `turned-down` speak of admitted items only.
 use mathlib.Core.Path.{_≡_}
 use mathlib.Core.Bool.{Bool, true, false}
 use mathlib.Core.List.{List, [], _∷_, _++_}
@@ -42,11 +42,11 @@ abbrev pub Close : ℕ × ℕ → ℕ → ℕ → Type 0
 Close (b, d) newer whole = (d - b) * whole ≤ d * newer
 
 pub record Laws {I S : Type 0} (m : Model I S) : Type 0 where
-  -- adding an item to the state for a list gives the state for the list followed by that item
+  -- the state of a list, with an item added, is the state of the list that ends with that item
   pub adding : (A : List I) (x : I) → Admitted m (A ++ x ∷ []) → m .add (m .state A) x ≡ m .state (A ++ x ∷ [])
-  -- adding an item that the test turns down leaves a state unchanged
+  -- an item that fails the test alters no record
   pub turned-down : (s : S) (x : I) → m .admits x ≡ false → m .add s x ≡ s
-  -- the state for a list tells f of that list
+  -- the state of a list has the value f of it
   pub valuing : (A : List I) → Admitted m A → m .value (m .state A) ≡ m .f A
   pub empty-is-nought : m .f [] ≡ 0
   pub oldest-out-never-raises : (x : I) (A : List I) → Admitted m (x ∷ A) → m .f A ≤ m .f (x ∷ A)

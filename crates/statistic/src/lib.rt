@@ -12,8 +12,7 @@ mod samples;
 mod tests;
 
 // What a meter needs of a statistic. `model` says what it means, `laws` that it keeps the laws of the method, and each
-// function is tied to the model. Adding and valuing are safe on every record of the state type, also on one that stands
-// for no list.
+// function is tied to the model. Adding and valuing must do with whatever a slot may hold.
 pub trait Statistic {
     type Item: Copy;
 

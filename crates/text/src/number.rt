@@ -2,7 +2,7 @@
 ghost use mathlib.Core.Path.{_≡_};
 ghost use Rattle.text.specs.Decimal.{spelled, leading-zero};
 
-// The number that `digits` spell: 1 to `most` digits, never more than 16, the first not 0 unless it stands alone.
+// The number that `digits` spell: at least one digit, at most `most` and never more than 16, and no 0 before others.
 pub fn read_number(most: usize, digits: &[u8]) -> Option<u64>
     ensures { λ r. ⌜ r ≡ spelled most (now (digits .entry)) ⌝ }
 {

@@ -1,7 +1,7 @@
-use mathlib.Core.Path.{_≡_, sym, subst, _∙_}
+use mathlib.Core.Path.{sym, subst, _∙_}
 use Prim.Native.Nat.{_+_, _≤_, _<_}
 use native.Mathlib.Omega.{arith}
-use lib.ListN.{length, take}
+use lib.ListN.{take}
 use Rattle.std.proofs.shelf.Lists.{getD-take, length-take-le}
 use Rattle.histogram.proofs.Expiry.{at-last, one-passed, none-passed}
 use Rattle.histogram.proofs.expire.passed.Needs as need

@@ -1,15 +1,17 @@
 use mathlib.Core.Path.{_≡_, refl, sym, ap, subst, subst₂, subst₃, _∙_}
-use mathlib.Core.Bool.{Bool, true, false, cond}
-use mathlib.Core.List.{List, [], _∷_, _++_}
+use mathlib.Core.Bool.{Bool, cond}
+use mathlib.Core.List.{[], _∷_, _++_}
 use Prim.Native.Nat.{ℕ, _+_, _-_, _≤_, _<_}
 use native.Mathlib.Omega.{arith}
 use borrow.Author.Needs.{needs}
 use borrow.Author.Tests.{true-eqb, false-eqb}
 use lib.ListN.{length, getD, take, drop, set}
 use Rattle.std.specs.declared.option.Option.the-variants.{None}
-use Rattle.std.proofs.shelf.Lists.{nil-from-length, drop-more, drop-drop, drop-all, getD-default, take-more, take-more-set, drop-set-lt, length-take-le}
+use Rattle.std.proofs.shelf.Lists.{nil-from-length, drop-more, drop-all, getD-default, take-more-set, drop-set-lt, length-take-le}
 use Rattle.std.proofs.shelf.Tests.{cond-true, cond-false}
-use Rattle.histogram.specs.Method.{told, near-values, pruned}
+use Rattle.histogram.specs.Method.{told, near, near-values, pruned}
+use Rattle.histogram.specs.Thins.{Thins}
+use Rattle.histogram.proofs.Thinned.{thins}
 use Rattle.histogram.proofs.Thinning.{same-rest, next-of-both, Sofar, behind, in-one-pass, replaced, promoted, kept, done}
 use Rattle.histogram.proofs.prune.prune.Given as given
 use Rattle.histogram.proofs.prune.prune.Needs as need
@@ -19,7 +21,7 @@ pub returns-then-is-empty : need.returns-then-is-empty
 returns-then-is-empty g c =
     let none : c .args .slots .now ≡ [] = nil-from-length _ (true-eqb (length (c .args .slots .now)) 0 (c .if-is-empty .ensures tt)) in
     let empty = ap (pruned (g .T·Statistic .model) (c .args .loss)) none in
-    record { within = omega arith; left = sym (ap length empty); kept = sym empty }
+    record { within = omega arith; left = sym (ap length empty); kept = sym empty; thins = subst (Thins (near (g .T·Statistic .model) (c .args .loss)) (c .args .slots .now)) empty (thins (near (g .T·Statistic .model) (c .args .loss)) (c .args .slots .now)) }
 
 pub loop-i-holds : need.loop-i-holds
 loop-i-holds g c =
@@ -109,4 +111,4 @@ returns g c =
     let is : out ≡ all = done (told m) (near-values (m .cut (c .args .loss))) all out (c .loop-i .anchor) (c .loop-i .last) (c .loop-i .held) (rw none at (c .loop-i .inv .3)) in
     let some : 1 ≤ length (c .args .slots .now) = omega (arith, false-eqb (length (c .args .slots .now)) 0 (c .if-is-empty .ensures tt)) in
     let within : c .loop-i .count ≤ length (c .loop-i .slots) = omega (arith, c .loop-i .inv .1, c .loop-i .kept .slots, c .loop-i .kept .i-end some) in
-    record { within = omega (arith, c .loop-i .kept .slots); left = sym (length-take-le (c .loop-i .count) (c .loop-i .slots) within) ∙ ap length is; kept = is }
+    record { within = omega (arith, c .loop-i .kept .slots); left = sym (length-take-le (c .loop-i .count) (c .loop-i .slots) within) ∙ ap length is; kept = is; thins = subst (Thins (near m (c .args .loss)) (c .args .slots .now)) (sym is) (thins (near m (c .args .loss)) (c .args .slots .now)) }

@@ -5,7 +5,7 @@ use native.Mathlib.Nat.{sub-zero}
 use native.Mathlib.Omega.{arith}
 use lib.ListN.{length, take, drop}
 use Rattle.histogram.specs.Method.{window-start, fed, advanced}
-use Rattle.meter.specs.Take.{Take, view, accepted, Takes}
+use Rattle.meter.specs.Take.{view, accepted, Takes}
 use Rattle.meter.proofs.Accepting.{lent, put-back, kept-in-front, takes-accepted}
 use Rattle.meter.proofs.Running.accept.Needs as need
 
@@ -28,12 +28,13 @@ returns g c =
     ∙ lent m x next (c .window-start-w .result) (c .loss-loss .result) (r .kept) xs (c .pre .room)
     ∙ ap (λ v. fed m x next v (c .loss-loss .result) (take (r .kept) xs)) (c .window-start-w .ensures)
     ∙ ap (λ v. fed m x next w v (take (r .kept) xs)) (c .loss-loss .ensures) in
-    let kept : take left (ys ++ drop n xs) ≡ accepted m t x .kept =
-    kept-in-front ys (drop n xs) (advanced m x next (c .window-start-w .result) (c .loss-loss .result) (take n xs)) left (c .advance-self .ensures .kept) (c .advance-self .ensures .left) ∙ is in
+    let in-front = kept-in-front ys (drop n xs) (advanced m x next (c .window-start-w .result) (c .loss-loss .result) (take n xs)) left (c .advance-self .ensures .kept) (c .advance-self .ensures .left) in
+    let kept : take left (ys ++ drop n xs) ≡ accepted m t x .kept = in-front ∙ is in
     let after : record { given = length (ys ++ drop n xs); window = t .window; loss = t .loss; now = next; kept = take left (ys ++ drop n xs) } ≡ accepted m t x = λ i. record { given = long i; window = t .window; loss = t .loss; now = next; kept = kept i } in
     record {
       answer = refl;
       after = after;
       preset = refl;
+      count = c .advance-self .ensures .left ∙ ap length (sym in-front);
       takes = λ items h. subst (Takes m (items ++ x ∷ [])) (sym after) (takes-accepted m (g .T·Statistic .laws) t x (c .pre .admitted) items h);
     }

@@ -1,4 +1,3 @@
-use borrow.Author.Needs.{needs}
 use Rattle.std.proofs.shelf.Tests.{ltb-true}
 use lib.ListN.{length}
 use Rattle.meter.proofs.Accepting.{room-is}

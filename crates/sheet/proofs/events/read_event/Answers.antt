@@ -9,7 +9,6 @@ use Rattle.std.specs.declared.option.Option.{Option}
 use Rattle.std.specs.declared.option.Option.the-variants.{Some, None}
 use Rattle.text.specs.Decimal.{spelled}
 use Rattle.sheet.specs.Events.{by-letter, event-of}
-use Rattle.sheet.specs.declared.event.Event.{Event}
 use Rattle.sheet.specs.declared.event.Event.the-variants.{Feed, Mark}
 use Rattle.sheet.proofs.events.read_event.Needs as need
 
