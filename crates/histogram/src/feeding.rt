@@ -1,6 +1,5 @@
 // One feed, from the kept slots to the kept slots.
 ghost use mathlib.Core.Path.{_≡_};
-ghost use Prim.Native.Nat.{_-_};
 ghost use lib.ListN.{length, take};
 ghost use Rattle.histogram.specs.Method.{advanced};
 use crate::expire::expire;
