@@ -11,7 +11,7 @@ use lib.Seq.{take-at}
 use Rattle.preset.specs.Questions.{asked, from-to, view}
 use Rattle.preset.specs.declared.Preset.{Preset}
 use Rattle.preset_text.specs.Reading.{given, then, behind, behind-in, value-of, three-lines, answered, read-text, read-front, kept}
-use Rattle.preset_text.specs.Words.{word, named, line, written}
+use Rattle.preset_text.specs.Words.{word, named, written}
 use Rattle.preset_text.specs.declared.kind.Kind.{Kind}
 use Rattle.preset_text.specs.declared.kind.Kind.the-variants.{Energy, Peak, Notes}
 use Rattle.refusal.specs.declared.Refusal.{Refusal}
@@ -29,17 +29,17 @@ use Rattle.std.proofs.shelf.Fronts.{end-rest}
 use Rattle.std.proofs.shelf.Lists.{nil-from-length}
 use Rattle.std.proofs.shelf.Tests.{eqb-true}
 use Rattle.text.specs.Decimal.{spelled}
-use Rattle.text.specs.Lines.{next-line}
+use Rattle.text.specs.Lines.{next-line, line}
 use Rattle.text.proofs.Decimals.{decimal-spelled}
 use Rattle.text.proofs.Lines.{text-of-line}
 
 -- where a chain of questions ends well, each was answered
 given-ok : {A B : Type 0} (o : Option A) (e : Refusal) (go : A → Result B Refusal) (y : B) → given o e go ≡ Ok y → (x : A) × (o ≡ Some x) × (go x ≡ Ok y)
-given-ok None e go y h = let z : _≡_ {A = ℕ} 0 1 = cc in absurd (omega arith)
+given-ok None e go y h = absurd (grind arith)
 given-ok (Some x) e go y h = (x, refl, h)
 
 then-ok : {A B : Type 0} (r : Result A Refusal) (go : A → Result B Refusal) (y : B) → then r go ≡ Ok y → (x : A) × (r ≡ Ok x) × (go x ≡ Ok y)
-then-ok (Err e) go y h = let z : _≡_ {A = ℕ} 0 1 = cc in absurd (omega arith)
+then-ok (Err e) go y h = absurd (grind arith)
 then-ok (Ok x) go y h = (x, refl, h)
 
 -- what stands behind a key makes the line with it
@@ -48,19 +48,19 @@ behind-ok key l v = go (sameBytes key (take (length key) l)) (sameBytes-decides 
   where
     go : (t : Bool) → (t ≡ true → key ≡ take (length key) l) → cond t (Some (drop (length key) l)) None ≡ Some v → l ≡ key ++ v
     go true same h = let e : drop (length key) l ≡ v = cc in sym (take-append-drop (length key) l) ∙ (λ i. sym (same refl) i ++ e i)
-    go false same h = let z : _≡_ {A = ℕ} 0 1 = cc in absurd (omega arith)
+    go false same h = absurd (grind arith)
 
 value-ok : (key t v rest : List ℕ) → value-of key t ≡ Some (v, rest) → t ≡ line key v ++ rest
 value-ok key t v rest = go (next-line t) refl
   where
     at : (l r : List ℕ) → next-line t ≡ Some (l, r) → (o : Option (List ℕ)) → behind key l ≡ o → mapped {U = List ℕ × List ℕ} (λ x. (x, r)) o ≡ Some (v, rest) → t ≡ line key v ++ rest
-    at l r e None b h = let z : _≡_ {A = ℕ} 0 1 = cc in absurd (omega arith)
+    at l r e None b h = absurd (grind arith)
     at l r e (Some x) b h =
         let same : _≡_ {A = List ℕ × List ℕ} (x, r) (v, rest) = cc in
         text-of-line t l r e ∙ ap (λ m. m ++ 10 ∷ r) (behind-ok key l x b) ∙ ap (λ y. (key ++ y .0) ++ 10 ∷ y .1) same ∙ simp append-assoc
 
     go : (o : Option (List ℕ × List ℕ)) → next-line t ≡ o → behind-in key o ≡ Some (v, rest) → t ≡ line key v ++ rest
-    go None e h = let z : _≡_ {A = ℕ} 0 1 = cc in absurd (omega arith)
+    go None e h = absurd (grind arith)
     go (Some p) e h = at (p .0) (p .1) e (behind key (p .0)) refl h
 
 -- three values and what is behind them make the text
@@ -86,8 +86,8 @@ asked-ok w l p = go (from-to 1 1048576 w) (from-to 1 999 l)
   where
     go : (a b : Bool) → cond a (cond b (Ok (w, l)) (Err LossOutOfRange)) (Err WindowOutOfRange) ≡ Ok p → p ≡ (w, l)
     go true true h = cc
-    go true false h = let z : _≡_ {A = ℕ} 0 1 = cc in absurd (omega arith)
-    go false b h = let z : _≡_ {A = ℕ} 0 1 = cc in absurd (omega arith)
+    go true false h = absurd (grind arith)
+    go false b h = absurd (grind arith)
 
 named-ok : (v : List ℕ) (k : Kind) → named v ≡ Some k → v ≡ word k
 named-ok v k = go (sameBytes v (word Energy)) (sameBytes-decides v (word Energy) .0) (sameBytes v (word Peak)) (sameBytes-decides v (word Peak) .0) (sameBytes v (word Notes)) (sameBytes-decides v (word Notes) .0)
@@ -96,7 +96,7 @@ named-ok v k = go (sameBytes v (word Energy)) (sameBytes-decides v (word Energy)
     go true e b f c g h = let is : Energy ≡ k = cc in e refl ∙ ap word is
     go false e true f c g h = let is : Peak ≡ k = cc in f refl ∙ ap word is
     go false e false f true g h = let is : Notes ≡ k = cc in g refl ∙ ap word is
-    go false e false f false g h = let z : _≡_ {A = ℕ} 0 1 = cc in absurd (omega arith)
+    go false e false f false g h = absurd (grind arith)
 
 answered-ok : (v : List ℕ × List ℕ × List ℕ) (k : Kind) (p : ℕ × ℕ) → answered v ≡ Ok (k, p) → (v .0 ≡ word k) × (v .1 ≡ decimal (p .0)) × (v .2 ≡ decimal (p .1))
 unfolding answered
@@ -131,7 +131,7 @@ read-ok t k p h =
   where
     alone : (b : Bool) (r : Result (Kind × (ℕ × ℕ)) Refusal) → cond b r (Err NotThreeLines) ≡ Ok (k, p) → (b ≡ true) × (r ≡ Ok (k, p))
     alone true r e = (refl, e)
-    alone false r e = let z : _≡_ {A = ℕ} 0 1 = cc in absurd (omega arith)
+    alone false r e = absurd (grind arith)
 
 -- the answer to `read` from those of its parts, and that it writes back
 pub read-from : (t : List ℕ) (v : List ℕ × List ℕ × List ℕ) (rest : List ℕ) → Ok (v, rest) ≡ three-lines t → true ≡ eqb (length rest) 0 → answered v ≡ read-text t

@@ -1,4 +1,4 @@
-pub mod Fronts
 pub mod Accepted
+pub mod SameBytes
 pub mod Three
 pub mod Written

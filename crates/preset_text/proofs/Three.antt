@@ -1,57 +1,55 @@
 -- The first three lines of a text, question by question.
-use mathlib.Core.Path.{_≡_, refl, sym, ap, _∙_}
-use mathlib.Core.Bool.{true}
-use mathlib.Core.List.{List, _++_}
+use mathlib.Core.Path.{_≡_, refl}
+use mathlib.Core.List.{List}
 use Prim.Native.Nat.{ℕ}
-use denote.Ref.{RefT}
+use denote.Ref.{RefT, now}
 use lib.Chars.{codes}
-use lib.ListN.{length, take}
-use lib.Seq.{take-at, drop-at}
-use Rattle.preset_text.specs.Lines.{Says}
-use Rattle.preset_text.specs.Reading.{behind, behind-in, value-of, three-lines}
+use Rattle.preset_text.specs.Lines.{Next}
+use Rattle.preset_text.specs.Reading.{value-of, three-lines}
 use Rattle.preset_text.specs.declared.line.PresetLine.{PresetLine}
 use Rattle.preset_text.specs.declared.line.PresetLine.the-variants.{Kind, Window, Loss, Other}
 use Rattle.refusal.specs.declared.Refusal.the-variants.{NotThreeLines}
+use Rattle.std.specs.declared.option.Option.{Option}
 use Rattle.std.specs.declared.option.Option.the-variants.{Some, None}
 use Rattle.std.specs.declared.result.Result.the-variants.{Ok, Err}
-use Rattle.std.specs.shelf.Text.{sameBytes}
-use Rattle.std.proofs.shelf.Equals.{sameBytes-decides}
-use Rattle.text.specs.Lines.{next-line}
 
-behind-key : (key v : List ℕ) → behind key (key ++ v) ≡ Some v
-behind-key key v =
-    let same : sameBytes key (take (length key) (key ++ v)) ≡ true = sameBytes-decides key (take (length key) (key ++ v)) .1 (sym (take-at key v (length key) refl)) in
-    rw same (ap (λ l. Some l) (drop-at key v (length key) refl))
+-- the first line of a text as it is handed on, if there is one, and the text behind it
+abbrev Handed : Type 0
+Handed = Option (PresetLine × RefT (List ℕ))
 
--- the answers to one question: the value under a key, no line at all, or a line with another key
-pub has-value : (key t l rest v : List ℕ) → Some (l, rest) ≡ next-line t → l ≡ key ++ v → value-of key t ≡ Some (v, rest)
-has-value key t l rest v e is = ap (behind-in key) (sym e) ∙ rw is (rw behind-key)
+-- a value and the text behind its line
+abbrev Valued : Type 0
+Valued = Option (List ℕ × List ℕ)
 
-pub has-no-line : (key t : List ℕ) → None ≡ next-line t → value-of key t ≡ None
-has-no-line key t e = ap (behind-in key) (sym e)
+-- what that line has under each key: `kind=`, `window=` and `loss=`
+abbrev found : Handed → Valued × Valued × Valued
+found None = (None, None, None)
+found (Some (Kind key value, rest)) = (Some (now value, now rest), None, None)
+found (Some (Window key value, rest)) = (None, Some (now value, now rest), None)
+found (Some (Loss key value, rest)) = (None, None, Some (now value, now rest))
+found (Some (Other whole, rest)) = (None, None, None)
 
-pub has-other-key : (key t l rest : List ℕ) → Some (l, rest) ≡ next-line t → behind key l ≡ None → value-of key t ≡ None
-has-other-key key t l rest e none = ap (behind-in key) (sym e) ∙ rw none
+pub found-is :
+    (t : List ℕ) (r : Handed) → Next t r →
+    (value-of (codes "kind=") t ≡ found r .0) × (value-of (codes "window=") t ≡ found r .1) × (value-of (codes "loss=") t ≡ found r .2)
+found-is t None none = rw none (refl, refl, refl)
+found-is t (Some (Kind key value, rest)) (line, is, says) = rw (is, says .1) (refl, refl, refl)
+found-is t (Some (Window key value, rest)) (line, is, says) = rw (is, says .1) (refl, refl, refl)
+found-is t (Some (Loss key value, rest)) (line, is, says) = rw (is, says .1) (refl, refl, refl)
+found-is t (Some (Other whole, rest)) (line, is, says) = rw (is, says .1, says .2, says .3) (refl, refl, refl)
 
--- a line that is handed on as another than wanted does not begin with the key
-pub not-kind : (line : List ℕ) (r : PresetLine) → Says line r → ((key value : RefT (List ℕ)) → r ≡ Kind key value → ⊥) → behind (codes "kind=") line ≡ None
-not-kind line (Kind key value) h other = absurd (other key value refl)
-not-kind line (Window key value) h other = rw (h .1)
-not-kind line (Loss key value) h other = rw (h .1)
-not-kind line (Other whole) h other = h .1
+-- a line that is handed on as another than wanted has nothing under the key that was wanted
+abbrev Unlike : (RefT (List ℕ) → RefT (List ℕ) → PresetLine) → Handed → Type 0
+Unlike wanted r = (key value rest : RefT (List ℕ)) → r ≡ Some (wanted key value, rest) → ⊥
 
-pub not-window : (line : List ℕ) (r : PresetLine) → Says line r → ((key value : RefT (List ℕ)) → r ≡ Window key value → ⊥) → behind (codes "window=") line ≡ None
-not-window line (Kind key value) h other = rw (h .1)
-not-window line (Window key value) h other = absurd (other key value refl)
-not-window line (Loss key value) h other = rw (h .1)
-not-window line (Other whole) h other = h .2
+pub not-found : (r : Handed) → (Unlike Kind r → found r .0 ≡ None) × (Unlike Window r → found r .1 ≡ None) × (Unlike Loss r → found r .2 ≡ None)
+not-found None = (λ _. refl, λ _. refl, λ _. refl)
+not-found (Some (Kind key value, rest)) = (λ other. absurd (other key value rest refl), λ _. refl, λ _. refl)
+not-found (Some (Window key value, rest)) = (λ _. refl, λ other. absurd (other key value rest refl), λ _. refl)
+not-found (Some (Loss key value, rest)) = (λ _. refl, λ _. refl, λ other. absurd (other key value rest refl))
+not-found (Some (Other whole, rest)) = (λ _. refl, λ _. refl, λ _. refl)
 
-pub not-loss : (line : List ℕ) (r : PresetLine) → Says line r → ((key value : RefT (List ℕ)) → r ≡ Loss key value → ⊥) → behind (codes "loss=") line ≡ None
-not-loss line (Kind key value) h other = rw (h .1)
-not-loss line (Window key value) h other = rw (h .1)
-not-loss line (Loss key value) h other = absurd (other key value refl)
-not-loss line (Other whole) h other = h .3
-
+-- the answer to three questions, of which the first no decides
 module _ (t : List ℕ) where
   pub three-at-kind : value-of (codes "kind=") t ≡ None → three-lines t ≡ Err NotThreeLines
   unfolding three-lines

@@ -7,12 +7,12 @@ use native.Mathlib.Omega.{arith}
 use lib.Chars.{codes}
 use lib.Dec.{leb}
 use lib.ListN.{length, take, drop, length-append}
-use lib.Seq.{take-at, take-all}
-use Rattle.preset_text.specs.Reading.{value-of, three-lines, answered, read-text}
-use Rattle.preset_text.specs.Words.{word, named, line, written}
+use lib.Seq.{take-at, drop-at, take-all}
+use Rattle.preset_text.specs.Reading.{behind, behind-in, value-of, three-lines, answered, read-text}
+use Rattle.preset_text.specs.Words.{word, named, written}
 use Rattle.preset_text.specs.declared.kind.Kind.{Kind}
 use Rattle.preset_text.specs.declared.kind.Kind.the-variants.{Energy, Peak, Notes}
-use Rattle.preset_text.proofs.Three.{has-value, three-at-all}
+use Rattle.preset_text.proofs.Three.{three-at-all}
 use Rattle.refusal.specs.declared.Refusal.{Refusal}
 use Rattle.refusal.specs.declared.Refusal.the-variants.{BufferTooShort}
 use Rattle.std.specs.Vec.{made}
@@ -20,18 +20,25 @@ use Rattle.std.specs.Written.{decimal}
 use Rattle.std.specs.declared.option.Option.the-variants.{Some}
 use Rattle.std.specs.declared.result.Result.{Result}
 use Rattle.std.specs.declared.result.Result.the-variants.{Ok, Err}
+use Rattle.std.specs.shelf.Text.{sameBytes}
 use Rattle.std.proofs.shelf.Decimals.{length-decimal-le}
+use Rattle.std.proofs.shelf.Equals.{sameBytes-decides}
 use Rattle.std.proofs.shelf.Tests.{le-leb}
-use Rattle.text.specs.Lines.{next-line}
+use Rattle.text.specs.Lines.{line}
 use Rattle.text.specs.Shown.{placed}
-use Rattle.text.proofs.Fronts.{front-front}
+use Rattle.text.proofs.Fronts.{pushed}
 use Rattle.text.proofs.Decimals.{spelled-decimal}
 use Rattle.text.proofs.Lines.{one-line, first-line, one-line-decimal}
+
+behind-key : (key v : List ℕ) → behind key (key ++ v) ≡ Some v
+behind-key key v =
+    let same : sameBytes key (take (length key) (key ++ v)) ≡ true = sameBytes-decides key (take (length key) (key ++ v)) .1 (sym (take-at key v (length key) refl)) in
+    rw same (ap (λ l. Some l) (drop-at key v (length key) refl))
 
 value-written : (key v rest : List ℕ) → one-line (key ++ v) ≡ true → value-of key (line key v ++ rest) ≡ Some (v, rest)
 value-written key v rest h =
     let regrouped : line key v ++ rest ≡ (key ++ v) ++ 10 ∷ rest = simp append-assoc in
-    has-value key (line key v ++ rest) (key ++ v) rest v (sym (ap next-line regrouped ∙ first-line (key ++ v) rest h)) refl
+    ap (value-of key) regrouped ∙ ap (behind-in key) (first-line (key ++ v) rest h) ∙ rw (behind-key key v)
 
 word-one-line : (k : Kind) → one-line (word k) ≡ true
 word-one-line Energy = refl
@@ -47,10 +54,6 @@ word-short : (k : Kind) → length (word k) ≤ 6
 word-short Energy = omega arith
 word-short Peak = omega arith
 word-short Notes = omega arith
-
--- one piece more
-pushed : (a b s t : List ℕ) → a ≡ take 64 s → b ≡ take 64 (a ++ t) → b ≡ take 64 (s ++ t)
-pushed a b s t e is = is ∙ ap (λ x. take 64 (x ++ t)) e ∙ front-front 64 s t
 
 module _ (k : Kind) (w l : ℕ) (w-low : 1 ≤ w) (w-high : w ≤ 1048576) (l-low : 1 ≤ l) (l-high : l ≤ 999) where
   three-written : three-lines (written k (w, l)) ≡ Ok ((word k, decimal w, decimal l), [])

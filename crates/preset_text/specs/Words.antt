@@ -1,13 +1,14 @@
 -- The words of a preset text, and the text that is written. A reader must believe that hosts keep presets in this form:
 -- the lines `kind=`, `window=` and `loss=` in this order, each ended by byte 10, with the library's decimal digits.
 use mathlib.Core.Bool.{cond}
-use mathlib.Core.List.{List, [], _∷_, _++_}
+use mathlib.Core.List.{List, _++_}
 use Prim.Native.Nat.{ℕ}
 use lib.Chars.{codes}
 use Rattle.std.specs.Written.{decimal}
 use Rattle.std.specs.declared.option.Option.{Option}
 use Rattle.std.specs.declared.option.Option.the-variants.{Some, None}
 use Rattle.std.specs.shelf.Text.{sameBytes}
+use Rattle.text.specs.Lines.{line}
 use Rattle.preset_text.specs.declared.kind.Kind.{Kind}
 use Rattle.preset_text.specs.declared.kind.Kind.the-variants.{Energy, Peak, Notes}
 
@@ -20,10 +21,6 @@ word Notes = codes "notes"
 -- the kind that a word names
 abbrev pub named : List ℕ → Option Kind
 named w = cond (sameBytes w (word Energy)) (Some Energy) (cond (sameBytes w (word Peak)) (Some Peak) (cond (sameBytes w (word Notes)) (Some Notes) None))
-
--- one line: what it begins with, its value, and byte 10
-abbrev pub line : List ℕ → List ℕ → List ℕ
-line key value = key ++ (value ++ 10 ∷ [])
 
 -- the text for a kind, a window and a loss
 unfoldable pub written : Kind → ℕ × ℕ → List ℕ

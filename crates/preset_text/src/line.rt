@@ -1,6 +1,6 @@
 // The lines of a preset text. Each is handed on with its key and its value, both borrowed from the text.
 ghost use mathlib.Core.Path.{_≡_};
-ghost use Rattle.preset_text.specs.Lines.{Keyed, Says, three};
+ghost use Rattle.preset_text.specs.Lines.{Keyed, Says, Next, three};
 ghost use Rattle.preset_text.specs.Reading.{behind, three-lines};
 ghost use Rattle.std.specs.Options.{Cases};
 ghost use Rattle.std.specs.declared.option.Option.the-variants.{None};
@@ -51,26 +51,25 @@ fn cut_key<'a>(line: &'a [u8], key: &[u8]) -> Option<(&'a [u8], &'a [u8])>
     }
 }
 
+// The first line of a text, and the text behind it.
+fn next_preset_line(text: &[u8]) -> Option<(PresetLine<'_>, &[u8])>
+    ensures { λ r. ⌜ Next (now (text .entry)) r ⌝ }
+{
+    let (line, rest) = next_line(text)?;
+    Some((PresetLine::of(line), rest))
+}
+
 // The first three lines of a text, where they are those of a preset.
 pub(crate) fn three_lines(text: &[u8]) -> Result<ThreeLines<'_>, Refusal>
     ensures { λ r. ⌜ three r ≡ three-lines (now (text .entry)) ⌝ }
 {
-    let Some((first, text)) = next_line(text) else {
+    let Some((PresetLine::Kind { value: kind, .. }, text)) = next_preset_line(text) else {
         return Err(Refusal::NotThreeLines);
     };
-    let PresetLine::Kind { value: kind, .. } = PresetLine::of(first) else {
+    let Some((PresetLine::Window { value: window, .. }, text)) = next_preset_line(text) else {
         return Err(Refusal::NotThreeLines);
     };
-    let Some((second, text)) = next_line(text) else {
-        return Err(Refusal::NotThreeLines);
-    };
-    let PresetLine::Window { value: window, .. } = PresetLine::of(second) else {
-        return Err(Refusal::NotThreeLines);
-    };
-    let Some((third, rest)) = next_line(text) else {
-        return Err(Refusal::NotThreeLines);
-    };
-    let PresetLine::Loss { value: loss, .. } = PresetLine::of(third) else {
+    let Some((PresetLine::Loss { value: loss, .. }, rest)) = next_preset_line(text) else {
         return Err(Refusal::NotThreeLines);
     };
     Ok(ThreeLines {

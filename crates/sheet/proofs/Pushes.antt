@@ -6,12 +6,9 @@ use native.Mathlib.Omega.{arith}
 use lib.ListN.{length, take, length-append}
 use Rattle.std.proofs.shelf.Decimals.{length-decimal-le}
 use Rattle.std.proofs.shelf.Lists.{take-all}
-use Rattle.text.proofs.Fronts.{front-front}
-use Rattle.sheet.specs.Answers.{word-line, number-line}
-
--- two pushes are one
-two-pushes : (s t u a b : List ℕ) → t ≡ take 64 (s ++ a) → u ≡ take 64 (t ++ b) → u ≡ take 64 (s ++ (a ++ b))
-two-pushes s t u a b p q = q ∙ ap (λ l. take 64 (l ++ b)) p ∙ front-front 64 (s ++ a) b ∙ ap (take 64) (append-assoc s a b)
+use Rattle.text.specs.Lines.{line}
+use Rattle.text.proofs.Fronts.{pushed}
+use Rattle.sheet.specs.Answers.{number-line}
 
 -- a push onto no bytes
 pub first-push : (s t a : List ℕ) → s ≡ [] → t ≡ take 64 (s ++ a) → length a ≤ 64 → t ≡ a
@@ -23,5 +20,7 @@ length-number-line name n fits =
     simp length-append (omega arith)
 
 -- three pushes of a line's parts are one
-pub line-pushed : (s t u v name word : List ℕ) → t ≡ take 64 (s ++ name) → u ≡ take 64 (t ++ word) → v ≡ take 64 (u ++ 10 ∷ []) → v ≡ take 64 (s ++ word-line name word)
-line-pushed s t u v name word p q r = two-pushes s t v name (word ++ 10 ∷ []) p (two-pushes t u v word (10 ∷ []) q r)
+pub line-pushed : (s t u v name word : List ℕ) → t ≡ take 64 (s ++ name) → u ≡ take 64 (t ++ word) → v ≡ take 64 (u ++ 10 ∷ []) → v ≡ take 64 (s ++ line name word)
+line-pushed s t u v name word p q r =
+    let regrouped : ((s ++ name) ++ word) ++ 10 ∷ [] ≡ s ++ line name word = simp append-assoc in
+    pushed _ _ _ _ (pushed _ _ (s ++ name) _ p q) r ∙ ap (take 64) regrouped

@@ -39,14 +39,14 @@ sample-only t z =
     (λ s. plain (spelled 7 t) refl)
   where
     minus : getD t 0 0 ≡ 45 → (o : Option ℕ) → spelled 7 (drop 1 t) ≡ o → with-some o negative ≡ Some z → t ≡ signed z
-    minus s None p h = let no : _≡_ {A = ℕ} 0 1 = cc in absurd (omega arith)
-    minus s (Some zero) p h = let no : _≡_ {A = ℕ} 0 1 = cc in absurd (omega arith)
+    minus s None p h = absurd (grind arith)
+    minus s (Some zero) p h = absurd (grind arith)
     minus s (Some (suc n)) p h =
         let same : negsuc n ≡ z = cc in
         parted 0 45 t s (omega arith) ∙ ap (λ l. 45 ∷ l) (decimal-spelled 7 (suc n) (drop 1 t) p) ∙ ap signed same
 
     plain : (o : Option ℕ) → spelled 7 t ≡ o → mapped pos o ≡ Some z → t ≡ signed z
-    plain None p h = let no : _≡_ {A = ℕ} 0 1 = cc in absurd (omega arith)
+    plain None p h = absurd (grind arith)
     plain (Some n) p h = let same : pos n ≡ z = cc in decimal-spelled 7 n t p ∙ ap signed same
 
 pub sample-own : (z : ℤ) → Seven-digits z → sample-of (signed z) ≡ Some z
@@ -59,8 +59,8 @@ hit-parts : (k : ℕ) (t : List ℕ) (h : Hit) → getD t k 0 ≡ 44 → hit-beh
 hit-parts k t h comma e = go (spelled 3 (take k t)) refl (spelled 3 (drop (k + 1) t)) refl e
   where
     go : (n : Option ℕ) → spelled 3 (take k t) ≡ n → (v : Option ℕ) → spelled 3 (drop (k + 1) t) ≡ v → hit-from n v ≡ Some h → t ≡ hit-text h
-    go None p v q e = let no : _≡_ {A = ℕ} 0 1 = cc in absurd (omega arith)
-    go (Some n) p None q e = let no : _≡_ {A = ℕ} 0 1 = cc in absurd (omega arith)
+    go None p v q e = absurd (grind arith)
+    go (Some n) p None q e = absurd (grind arith)
     go (Some n) p (Some v) q e =
         let same : record { note = n; velocity = v } ≡ h = cc in
         parted k 44 t comma (omega arith)
@@ -69,7 +69,7 @@ hit-parts k t h comma e = go (spelled 3 (take k t)) refl (spelled 3 (drop (k + 1
         ∙ ap hit-text same
 
 pub hit-only : (t : List ℕ) (h : Hit) → hit-of t ≡ Some h → t ≡ hit-text h
-hit-only t h = at 1 _ (at 2 _ (at 3 None (λ e. let no : _≡_ {A = ℕ} 0 1 = cc in absurd (omega arith))))
+hit-only t h = at 1 _ (at 2 _ (at 3 None (λ e. absurd (grind arith))))
   where
     at : (k : ℕ) (other : Option Hit) → (other ≡ Some h → t ≡ hit-text h) → cond (eqb (getD t k 0) 44) (hit-behind k t) other ≡ Some h → t ≡ hit-text h
     at k other rest = cond-both (eqb (getD t k 0) 44) (hit-behind k t) other (λ o. o ≡ Some h → t ≡ hit-text h) (λ s. hit-parts k t h (eqb-true (getD t k 0) 44 s)) (λ s. rest)

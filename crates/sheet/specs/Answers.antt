@@ -1,20 +1,17 @@
 -- The answer lines of a sheet. A reader must believe these texts: a host knows the answers by nothing else.
-use mathlib.Core.List.{List, [], _∷_, _++_}
+use mathlib.Core.List.{List, _++_}
 use Prim.Native.Nat.{ℕ}
 use lib.Chars.{codes}
 use Rattle.std.specs.Written.{decimal}
 use Rattle.refusal.specs.Numbers.{number-of}
 use Rattle.refusal.specs.declared.Refusal.{Refusal}
+use Rattle.text.specs.Lines.{line}
 use Rattle.meter.specs.declared.answers.Verdict.{Verdict}
 use Rattle.meter.specs.declared.answers.Verdict.the-variants.{Above, Below, Open}
 
--- a line with a name and a word, ended by byte 10
-abbrev pub word-line : List ℕ → List ℕ → List ℕ
-word-line name word = name ++ (word ++ 10 ∷ [])
-
 -- a line with a name and a number
 abbrev pub number-line : List ℕ → ℕ → List ℕ
-number-line name n = word-line name (decimal n)
+number-line name n = line name (decimal n)
 
 -- the two bounds of a reading
 abbrev pub reading-text : ℕ → ℕ → List ℕ
@@ -28,7 +25,7 @@ verdict-word Open = codes "open"
 
 -- what a reading says of a mark
 abbrev pub verdict-text : Verdict → List ℕ
-verdict-text verdict = word-line (codes "mark=") (verdict-word verdict)
+verdict-text verdict = line (codes "mark=") (verdict-word verdict)
 
 -- the number of a refusal
 abbrev pub refusal-text : Refusal → List ℕ

@@ -4,8 +4,9 @@ ghost use mathlib.Core.List.{_++_};
 ghost use mathlib.Core.Path.{_≡_};
 ghost use Prim.Native.Nat.{_+_, _≤_};
 ghost use lib.ListN.{length, take};
+ghost use Rattle.text.specs.Lines.{line};
 ghost use Rattle.text.specs.Shown.{shown, placed};
-ghost use Rattle.sheet.specs.Answers.{word-line, number-line, reading-text, verdict-text, refusal-text};
+ghost use Rattle.sheet.specs.Answers.{number-line, reading-text, verdict-text, refusal-text};
 use meter::Verdict;
 use refusal::Refusal;
 use text::Short;
@@ -54,7 +55,7 @@ fn verdict_line(verdict: Verdict) -> Short
 
 fn word_line(name: &[u8], word: &[u8]) -> Short
     requires { ⌜ length (now name) + length (now word) ≤ 63 ⌝ }
-    ensures { λ r. ⌜ shown r ≡ word-line (now (name .entry)) (now (word .entry)) ⌝ }
+    ensures { λ r. ⌜ shown r ≡ line (now (name .entry)) (now (word .entry)) ⌝ }
 {
     let mut text = Short::new();
     text.push(name);

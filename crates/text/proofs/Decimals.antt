@@ -102,7 +102,7 @@ parts most n ds e = ⊎-elim is not (cases-bool (is-number most ds))
         (cc, leb-true 1 (length ds) (a .0), leb-true (length ds) (min most 16) (b .0), not-true _ (d .0), d .1)
 
     not : is-number most ds ≡ false → (n ≡ value 10 ds) × (1 ≤ length ds) × (length ds ≤ min most 16) × (leading-zero ds ≡ false) × (allDigits ds ≡ true)
-    not y = let v = no-number most ds y in let z : _≡_ {A = ℕ} 0 1 = cc in absurd (omega arith)
+    not y = let v = no-number most ds y in absurd (grind arith)
 
 pub spelled-small : (most n : ℕ) (ds : List ℕ) → spelled most ds ≡ Some n → n < 10 ^ min most 16
 spelled-small most n ds e = let p = parts most n ds e in rw (p .0) (value-short digits-own ds (min most 16) (p .4) (p .2))

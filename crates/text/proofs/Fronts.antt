@@ -24,12 +24,16 @@ take-min n ys =
     (cases-lt n (length ys))
 
 -- what is cut off before more is put behind would be cut off later too
-pub front-front : (n : ℕ) (xs ys : List ℕ) → take n (take n xs ++ ys) ≡ take n (xs ++ ys)
+front-front : (n : ℕ) (xs ys : List ℕ) → take n (take n xs ++ ys) ≡ take n (xs ++ ys)
 front-front n xs ys =
     ⊎-elim
     (λ (h : n < length xs). let l : n ≤ length (take n xs) = simp length-take (omega arith) in let k : n ≤ length xs = omega arith in take-append-le n (take n xs) ys l ∙ take-take n n xs (le-refl n) ∙ sym (take-append-le n xs ys k))
     (λ (h : length xs ≤ n). ap (λ l. take n (l ++ ys)) (take-all n xs h))
     (cases-lt n (length xs))
+
+-- a has the first 64 bytes of s, and b those of s with one piece more
+pub pushed : (a b s t : List ℕ) → a ≡ take 64 s → b ≡ take 64 (a ++ t) → b ≡ take 64 (s ++ t)
+pushed a b s t e is = is ∙ ap (λ x. take 64 (x ++ t)) e ∙ front-front 64 s t
 
 -- as many of the bytes bs as fit, written into a text of 64 bytes behind its first `len`
 pub written-behind : (len n : ℕ) (xs bs ys : List ℕ) → len ≤ 64 → length xs ≡ 64 → n ≡ min (length bs) (64 - len) → ys ≡ take (n - 0) bs → take (len + n) (putMid len (len + n - len) xs ys) ≡ take 64 (take len xs ++ bs)

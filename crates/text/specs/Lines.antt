@@ -1,6 +1,6 @@
 -- Lines of a text. A reader must believe that a line ends with byte 10, and with nothing else.
 use mathlib.Core.Bool.{cond}
-use mathlib.Core.List.{List, [], _∷_}
+use mathlib.Core.List.{List, [], _∷_, _++_}
 use Prim.Native.Nat.{ℕ}
 use lib.Dec.{eqb}
 use Rattle.std.specs.Options.{mapped}
@@ -21,3 +21,7 @@ before b (l ∷ ls, rest) = ((b ∷ l) ∷ ls, rest)
 abbrev pub lines : List ℕ → List (List ℕ) × List ℕ
 lines [] = ([], [])
 lines (b ∷ bs) = cond (eqb b 10) ([] ∷ lines bs .0, lines bs .1) (before b (lines bs))
+
+-- a line that is written: what it begins with, what stands behind that, and byte 10
+abbrev pub line : List ℕ → List ℕ → List ℕ
+line key value = key ++ (value ++ 10 ∷ [])

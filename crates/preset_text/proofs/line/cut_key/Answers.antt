@@ -2,7 +2,7 @@ use mathlib.Core.Path.{sym, _∙_}
 use mathlib.Core.List.{_++_}
 use lib.ListN.{length, take-append-drop}
 use Rattle.std.proofs.shelf.Equals.{matches-decides}
-use Rattle.preset_text.proofs.Fronts.{same-answer, not-behind}
+use Rattle.preset_text.proofs.SameBytes.{same-answer}
 use Rattle.preset_text.proofs.line.cut_key.Needs as need
 
 pub returns-then-starts-with : need.returns-then-starts-with
@@ -15,4 +15,5 @@ returns-then-starts-with c =
 
 pub returns-else-starts-with : need.returns-else-starts-with
 returns-else-starts-with c =
-    not-behind (c .args .key .now) (c .args .line .now) (sym (c .if-starts-with .left) ∙ same-answer _ _ _ (c .starts-with .ensures .matches))
+    let other = sym (c .if-starts-with .left) ∙ same-answer _ _ _ (c .starts-with .ensures .matches) in
+    rw (← other)

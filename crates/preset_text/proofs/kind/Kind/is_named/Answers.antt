@@ -1,6 +1,6 @@
 use mathlib.Core.Path.{ap, _∙_}
 use Rattle.std.specs.shelf.Text.{sameBytes}
-use Rattle.preset_text.proofs.Fronts.{same-answer}
+use Rattle.preset_text.proofs.SameBytes.{same-answer}
 use Rattle.preset_text.proofs.kind.Kind.is_named.Needs as need
 
 pub returns : need.returns
