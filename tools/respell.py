@@ -11,25 +11,26 @@ import re
 # these get an underscore for each dash
 PLAIN = """
 a-number admits-taken after-block after-feed after-items after-last after-offer after-offers all-anchored
-all-behind all-logged all-more answer-to answered-ok answered-written apart-behind as-heard as-many asked-ok
-at-last at-most batch-never-wants batch-takes behind-expiry behind-in behind-key behind-ok below-fall
-below-nought below-top below-top-of block-answer block-knows bounded-from breaks-off by-half by-length
-by-letter by-loss by-steps ceiling-smooth count-le count-left counts-within covers-first covers-unexpired
-cut-fits decimal-spelled digit-alone digit-behind digits-own distinct-notes earlier-still either-first
-empty-is-nought empty-slot ends-before ends-here energy-laws energy-of enough-for event-of event-true
-fall-lowers fall-mono fed-at fed-knows feed-answer few-of first-by first-grown first-left first-line
-first-push first-then first-thins found-is fresh-less from-parts from-to front-from front-front front-of-line
-front-ok front-past front-prints front-within given-ok goes-on has-note has-push heard-from hit-behind
-hit-bound hit-from hit-of hit-only hit-own hit-parts hit-text how-many in-one-pass in-take in-window is-hit
-is-loss is-number is-refused is-sample is-taken items-after items-answer items-in items-never-want just-made
-keep-loss kept-from kept-in-front kept-more kept-of kind-is kind-prints last-behind last-by last-map last-of
-last-push last-thins leading-zero leads-here leads-on leads-one-on line-pushed lines-end lines-step lines-true
-linked-behind linked-left linked-map linked-more linked-push linked-thins logged-all logged-more logged-on
-loss-fits loss-is loss-kept loudest-laws mark-in mark-words marks-are-words marks-of marks-push more-from
-most-kept moved-up named-ok named-word near-by near-close near-follows near-values never-wants new-known
-newest-admitted newest-in-never-lowers newest-left next-line next-of next-of-both no-comma no-nearer no-number
-no-want none-left none-passed not-digit not-found not-moved notes-laws number-from number-line number-of
-number-small of-block of-items older-admitted oldest-out-never-raises one-free one-left one-line
+all-behind all-logged all-more all-unexpired answer-to answered-ok answered-written apart-behind
+as-heard as-many asked-ok at-last at-most batch-never-wants batch-takes behind-expiry behind-in behind-key
+behind-ok below-fall below-nought below-top below-top-of block-answer block-knows bounded-from breaks-off
+by-half by-length by-letter by-loss by-steps ceiling-smooth count-le count-left counts-within covers-first
+covers-unexpired cut-fits decimal-spelled digit-alone digit-behind digits-own distinct-notes earlier-still
+either-first empty-is-nought empty-slot ends-before ends-here energy-laws energy-of enough-for event-of
+event-true fall-lowers fall-mono fed-at fed-knows fed-one feed-answer few-of first-by first-grown first-left
+first-line first-push first-then first-thins found-is fresh-less from-parts from-to front-from front-front
+front-of-line front-ok front-past front-prints front-within given-ok goes-on has-note has-push heard-from
+hit-behind hit-bound hit-from hit-of hit-only hit-own hit-parts hit-text how-many in-one-pass in-take
+in-window is-hit is-loss is-near is-number is-refused is-sample is-taken items-after items-answer items-in
+items-never-want just-made keep-loss kept-from kept-in-front kept-more kept-of kind-is kind-prints l-high l-is
+l-low last-behind last-by last-map last-of last-push last-thins leading-zero leads-here leads-on leads-one-on
+line-pushed lines-end lines-step lines-true linked-behind linked-left linked-map linked-more linked-push
+linked-thins logged-all logged-more logged-on loss-fits loss-is loss-kept loudest-laws mark-in mark-words
+marks-are-words marks-of marks-push more-from most-kept moved-up named-ok named-so named-word near-by
+near-close near-follows near-it near-slots near-values never-wants new-known newest-admitted
+newest-in-never-lowers newest-left next-line next-of next-of-both no-comma no-nearer no-number no-want
+none-left none-passed not-digit not-found not-moved not-near notes-laws number-from number-line number-of
+number-small of-block of-items older-admitted oldest-out-never-raises one-free one-gone one-left one-line
 one-line-decimal one-line-digits one-more one-passed one-refused one-step one-taken onto-onto or-else or-false
 or-swap passed-found passed-more peak-laws placed-front preset-in promised-to put-back read-all read-behind
 read-from read-front read-is read-more read-ok read-room read-stops read-text read-writes-back read-written
@@ -40,11 +41,11 @@ sound-of sparse-behind sparse-left sparse-of sparse-thins spelled-decimal spelle
 stands-grown stands-of start-of starts-there stays-close stays-near steps-count steps-fall steps-mono
 steps-mono-within steps-within still-follows take-min take-prints taken-leaves takes-accepted takes-items
 takes-on text-is text-of-line text-plays then-ok thins-from three-at-all three-at-kind three-at-loss
-three-at-window three-lines three-ok three-written times-d to-start to-stop told-falls total-more total-none
-total-same total-split true-answer true-as turned-down u-is value-of value-ok value-written verdict-text
-verdict-word wants-not whole-ok window-start with-a-free-slot with-fed with-item with-later with-some
-within-steps within-window word-lt word-mark word-one-line word-ones word-or word-short words-push writes-back
-written-behind written-in-pieces written-short
+three-at-window three-lines three-ok three-written times-d to-start to-stop told-falls told-last total-more
+total-none total-same total-split true-answer true-as turned-down u-is value-of value-ok value-written
+verdict-text verdict-word w-high w-is w-low wants-not whole-ok window-is window-start with-a-free-slot
+with-fed with-item with-later with-some within-steps within-window word-lt word-mark word-one-line word-ones
+word-or word-short words-push writes-back written-behind written-in-pieces written-short
 """
 # these are facts, or join two names
 OTHER = {

@@ -1,6 +1,6 @@
 -- Lists whose neighbours are related. Assumes nothing.
 use Rattle.std.proofs.Common.{◌≡◌, ℕ, Bool, false, List, [], ◌∷◌, ◌++◌, map, refl}
-use Rattle.std.specs.List.{AllByRecursion as All}
+use Rattle.std.specs.List.{AllByRecursion}
 
 -- of three in a row the third is not near the first
 abbrev pub Sparse : {X : Type 0} → (X → X → Bool) → List X → Type 0
@@ -53,7 +53,7 @@ module _ {X : Type 0} (number : X → ℕ) (y : X) where
 
 -- What holds of a list holds from a later element on.
 module _ {X : Type 0} where
-  pub all_behind : (P : X → Type 0) (b : X) (gap rest : List X) → All P (gap ++ b ∷ rest) → All P (b ∷ rest)
+  pub all_behind : (P : X → Type 0) (b : X) (gap rest : List X) → AllByRecursion P (gap ++ b ∷ rest) → AllByRecursion P (b ∷ rest)
   all_behind P b [] rest h = h
   all_behind P b (g ∷ gap) rest h = all_behind P b gap rest h.1
 

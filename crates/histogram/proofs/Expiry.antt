@@ -33,13 +33,13 @@ module _ {S : Type 0} (w : ℕ) where
       ap (unexpired w) (two xs i d h) ∙ rest ∙ sym (two xs i d h)
 
 -- what a list keeps where its first slot goes, it keeps through expiry
-module _ {S : Type 0} (Keeps : List (Slot S) → Type 0) (one-gone : (s t : Slot S) (ts : List (Slot S)) → Keeps (s ∷ t ∷ ts) → Keeps (t ∷ ts)) where
+module _ {S : Type 0} (Keeps : List (Slot S) → Type 0) (one_gone : (s t : Slot S) (ts : List (Slot S)) → Keeps (s ∷ t ∷ ts) → Keeps (t ∷ ts)) where
   pub behind_expiry : (w : ℕ) (slots : List (Slot S)) → Keeps slots → Keeps (unexpired w slots)
   behind_expiry w [] h = h
   behind_expiry w (s ∷ []) h = h
   behind_expiry w (s ∷ t ∷ ts) h =
       elim (leb t.start w) as (λ b. Keeps (cond b (unexpired w (t ∷ ts)) (s ∷ t ∷ ts)))
-      [ true ↦ behind_expiry w (t ∷ ts) (one-gone s t ts h) | false ↦ h ]
+      [ true ↦ behind_expiry w (t ∷ ts) (one_gone s t ts h) | false ↦ h ]
 
 -- Of the first n elements, those behind the first few: moved to the front, and where they are.
 module _ {X : Type 0} (xs : List X) (n gone : ℕ) (within : gone ≤ n) (enough : n ≤ length xs) where

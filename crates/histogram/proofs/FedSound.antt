@@ -1,7 +1,7 @@
 -- A feed keeps what the kept slots satisfy. From the laws of a statistic.
 use Rattle.std.proofs.Common.{◌≡◌, ℕ, ◌+◌, ◌<◌, ◌≤◌, true, leb, List, [], ◌∷◌, ◌++◌, map, length, ◌∙◌, inl, inr, le_refl, arith, length-append}
 use lib.Seq.{take-length}
-use Rattle.std.specs.List.{AllByRecursion as All}
+use Rattle.std.specs.List.{AllByRecursion}
 use Rattle.std.proofs.lemmas.List.{take-append-le}
 use Rattle.std.proofs.lemmas.Bool.{cond_both, leb-true, leb-false}
 use Rattle.statistic.specs.Model.{Model, Admitted, Laws}
@@ -82,7 +82,7 @@ module _ {I S : Type 0} (m : Model I S) (laws : Laws m) (window loss : ℕ) (ite
   stands : Stands m items' (fed m x (length items + 1) w loss slots)
   stands = stands_fed m laws items x sound.stands.0 admits w loss slots sound.stands.1
 
-  all_more : All (StandsFor m items') more
+  all_more : AllByRecursion (StandsFor m items') more
   all_more = stands_grown m laws items x sound.stands.0 admits slots sound.stands.1
 
   linked_more : Linked (Follows m loss items') more

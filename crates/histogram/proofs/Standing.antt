@@ -1,6 +1,6 @@
 -- A feed keeps what the slots stand for. From the laws of adding alone.
 use Rattle.std.proofs.Common.{◌≡◌, ℕ, zero, suc, ◌+◌, ◌-◌, ◌≤◌, Bool, true, List, [], ◌∷◌, ◌++◌, map, length, drop, sym, ap, ◌∙◌, arith, length-append}
-use Rattle.std.specs.List.{prefix_len, AllByRecursion as All}
+use Rattle.std.specs.List.{prefix_len, AllByRecursion}
 use Rattle.std.proofs.ByRecursion.{All-drop, All-append, All-map, All-weaker}
 use Rattle.std.proofs.lemmas.List.{drop-append-le, drop_at}
 use Rattle.statistic.specs.Model.{Model, Admitted, Laws}
@@ -11,7 +11,7 @@ use Rattle.histogram.proofs.Expiry.{behind_expiry}
 
 -- thinning only takes elements away
 module _ {X : Type 0} (P : X → Type 0) (near : X → X → Bool) where
-  all_anchored : (n : ℕ) (xs : List X) → All P xs → All P (anchored near n xs)
+  all_anchored : (n : ℕ) (xs : List X) → AllByRecursion P xs → AllByRecursion P (anchored near n xs)
   all_anchored zero xs h = h
   all_anchored (suc n) [] h = tt
   all_anchored (suc n) (a ∷ ts) h = (h.0, all_anchored n (onward near a ts) (All-drop P (prefix_len (near a) ts - 1) ts h.1))
@@ -43,17 +43,17 @@ module _ {I S : Type 0} (m : Model I S) (laws : Laws m) (items : List I) (x : I)
       (omega arith, simp length-append (omega arith), laws.adding [] x (admits, tt) ∙ ap m.state (sym last))
 
   -- every slot stands for its items once the new one is in
-  pub stands_grown : (kept : List (Slot S)) → All (StandsFor m items) kept
-      → All (StandsFor m (items ++ x ∷ [])) (grown m x (length items + 1) kept)
+  pub stands_grown : (kept : List (Slot S)) → AllByRecursion (StandsFor m items) kept
+      → AllByRecursion (StandsFor m (items ++ x ∷ [])) (grown m x (length items + 1) kept)
   stands_grown kept h =
       let P = StandsFor m (items ++ x ∷ []) in
-      let older : All P (map (with_item m x) kept) = All-map P (with_item m x) kept (All-weaker (StandsFor m items) (λ s. P (with_item m x s)) old kept h) in
+      let older : AllByRecursion P (map (with_item m x) kept) = All-map P (with_item m x) kept (All-weaker (StandsFor m items) (λ s. P (with_item m x s)) old kept h) in
       All-append P (map (with_item m x) kept) (with_item m x (empty_slot m (length items + 1)) ∷ []) older (new, tt)
 
-  pub stands_fed : (w loss : ℕ) (kept : List (Slot S)) → All (StandsFor m items) kept
+  pub stands_fed : (w loss : ℕ) (kept : List (Slot S)) → AllByRecursion (StandsFor m items) kept
       → Stands m (items ++ x ∷ []) (fed m x (length items + 1) w loss kept)
   stands_fed w loss kept h =
       let P = StandsFor m (items ++ x ∷ []) in
       let slots = grown m x (length items + 1) kept in
-      let left : All P (pruned m loss slots) = all_anchored P (near m loss) (length slots) slots (stands_grown kept h) in
-      (Admitted-append m items (x ∷ []) held (admits, tt), behind_expiry (All P) (λ _ _ _ all. all.1) w (pruned m loss slots) left)
+      let left : AllByRecursion P (pruned m loss slots) = all_anchored P (near m loss) (length slots) slots (stands_grown kept h) in
+      (Admitted-append m items (x ∷ []) held (admits, tt), behind_expiry (AllByRecursion P) (λ _ _ _ all. all.1) w (pruned m loss slots) left)

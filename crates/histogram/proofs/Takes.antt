@@ -1,6 +1,6 @@
 -- What the slots that a whole take keeps promise. From the laws of a statistic.
 use Rattle.std.proofs.Common.{◌≡◌, ℕ, ◌+◌, ◌-◌, ◌≤◌, true, List, [], ◌∷◌, ◌++◌, length, sym, refl, ap, subst₂, append_assoc, append-nil, arith, length-append}
-use Rattle.std.specs.List.{AllByRecursion as All}
+use Rattle.std.specs.List.{AllByRecursion}
 use Rattle.std.proofs.ByRecursion.{All-weaker}
 use Rattle.statistic.specs.Model.{Model, Admitted, Laws, IsLoss}
 use Rattle.histogram.specs.declared.slot.Slot.{Slot}
@@ -47,8 +47,8 @@ module _ {I S : Type 0} (m : Model I S) (window loss : ℕ) where
     sound_from before [] n slots is h sound = rw append-nil sound
     sound_from before (x ∷ xs) n slots is h sound =
         let long : n + 1 ≡ length (before ++ x ∷ []) = simp length-append (omega arith) in
-        let fed-one : List (Slot S) = fed_at (n + 1) x slots in
-        rw append_assoc at (sound_from (before ++ x ∷ []) xs (n + 1) fed-one long h.1 (sound_next before x n slots is h.0 sound))
+        let fed_one : List (Slot S) = fed_at (n + 1) x slots in
+        rw append_assoc at (sound_from (before ++ x ∷ []) xs (n + 1) fed_one long h.1 (sound_next before x n slots is h.0 sound))
 
     module _ (items : List I) (held : Admitted m items) where
       sound_of : SoundNow items (kept_of m (window, loss) items)
@@ -63,7 +63,7 @@ module _ {I S : Type 0} (m : Model I S) (window loss : ℕ) where
       sparse_of = sound_of.sparse
 
       -- none tells more than the top
-      pub below_top_of : All (λ s. told m s ≤ m.top) (kept_of m (window, loss) items)
+      pub below_top_of : AllByRecursion (λ s. told m s ≤ m.top) (kept_of m (window, loss) items)
       below_top_of =
           All-weaker (StandsFor m items) (λ s. told m s ≤ m.top)
           (λ s p. rw (tells m laws items held s p) (laws.below_top (from m s.start items) (Admitted-drop m (s.start - 1) items held)))

@@ -1,6 +1,6 @@
 -- Thinning leaves what `Thins` says. Assumes nothing.
 use Rattle.std.proofs.Common.{◌≡◌, ℕ, zero, suc, ◌+◌, ◌-◌, ◌<◌, ◌≤◌, Bool, true, false, cond, List, [], ◌∷◌, ◌++◌, length, get_or, take, drop, sym, refl, ap, ◌∙◌, subst, inl, inr, ⊎_elim, one-add, arith, length-drop, take-append-drop}
-use Rattle.std.specs.List.{prefix_len, AllByRecursion as All}
+use Rattle.std.specs.List.{prefix_len, AllByRecursion}
 use Rattle.std.proofs.lemmas.List.{drop_more}
 use Rattle.std.proofs.lemmas.List.Sums.{prefix_len-le-length}
 use Rattle.std.proofs.lemmas.Bool.{cases_lt}
@@ -22,11 +22,11 @@ module _ {X : Type 0} (near : X → X → Bool) where
       ends_here false e more = e
 
   -- of the leading near ones, the first k and the next are near
-  leads : (a d : X) (ts : List X) (k : ℕ) → k < prefix_len (near a) ts → All (λ t. near a t ≡ true) (take k ts) × (near a (get_or ts k d) ≡ true)
+  leads : (a d : X) (ts : List X) (k : ℕ) → k < prefix_len (near a) ts → AllByRecursion (λ t. near a t ≡ true) (take k ts) × (near a (get_or ts k d) ≡ true)
   leads a d [] k h = absurd (omega arith)
   leads a d (t ∷ ts) k h = leads_here (near a t) refl k h (leads a d ts)
     where
-      leads_here : (b : Bool) → near a t ≡ b → (k : ℕ) → k < cond b (1 + prefix_len (near a) ts) 0 → ((j : ℕ) → j < prefix_len (near a) ts → All (λ s. near a s ≡ true) (take j ts) × (near a (get_or ts j d) ≡ true)) → All (λ s. near a s ≡ true) (take k (t ∷ ts)) × (near a (get_or (t ∷ ts) k d) ≡ true)
+      leads_here : (b : Bool) → near a t ≡ b → (k : ℕ) → k < cond b (1 + prefix_len (near a) ts) 0 → ((j : ℕ) → j < prefix_len (near a) ts → AllByRecursion (λ s. near a s ≡ true) (take j ts) × (near a (get_or ts j d) ≡ true)) → AllByRecursion (λ s. near a s ≡ true) (take k (t ∷ ts)) × (near a (get_or (t ∷ ts) k d) ≡ true)
       leads_here false e k h more = absurd (omega arith)
       leads_here true e zero h more = (tt, e)
       leads_here true e (suc j) h more = let rest = more j (omega arith) in ((e, rest.0), rest.1)

@@ -66,13 +66,13 @@ module _ {X : Type 0} (told : X → ℕ) (close : ℕ → ℕ → Bool) where
 
     -- not near the anchor, it makes the one held the next anchor
     pub promoted : (out : List X) → close anchor v ≡ false → Sofar all out (x ∷ r) anchor last true → all ≡ out ++ behind last None (x ∷ r)
-    promoted out e (p, c, cut, told-last, is) =
+    promoted out e (p, c, cut, told_last, is) =
         let found : all ≡ p ++ c ∷ behind (told c) None (x ∷ r) = rw (ap (close anchor) tells ∙ e) at is in
         found ∙ sym (append_assoc p (c ∷ []) (behind (told c) None (x ∷ r))) ∙ ap (λ l. l ++ behind (told c) None (x ∷ r)) (sym cut)
-        ∙ ap (λ n. out ++ behind n None (x ∷ r)) told-last
+        ∙ ap (λ n. out ++ behind n None (x ∷ r)) told_last
 
     -- with nothing held it is kept: near the anchor it is the one held, else it is the next anchor
-    pub kept : (out : List X) (near-it : Bool) → close anchor v ≡ near-it → all ≡ out ++ behind anchor None (x ∷ r) → Sofar all (out ++ x ∷ []) r (cond near-it anchor v) v near-it
+    pub kept : (out : List X) (near_it : Bool) → close anchor v ≡ near_it → all ≡ out ++ behind anchor None (x ∷ r) → Sofar all (out ++ x ∷ []) r (cond near_it anchor v) v near_it
     kept out true e is = (out, x, refl, tells, rw (ap (close anchor) tells ∙ e) at is)
     kept out false e is =
         let found : all ≡ out ++ x ∷ behind (told x) None r = rw (ap (close anchor) tells ∙ e) at is in

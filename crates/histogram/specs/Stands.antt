@@ -1,7 +1,7 @@
 -- What a kept slot means: its state stands for the items of the take from its start on. A reader must believe that this is
 -- what ties the slots, which the meter keeps, to the items, which it does not.
 use Rattle.std.specs.Prelude.{◌≡◌, ℕ, ◌-◌, ◌≤◌, List, length, drop}
-use Rattle.std.specs.List.{AllByRecursion as All}
+use Rattle.std.specs.List.{AllByRecursion}
 use Rattle.statistic.specs.Model.{Model, Admitted}
 use Rattle.histogram.specs.declared.slot.Slot.{Slot}
 
@@ -16,4 +16,4 @@ module _ {I S : Type 0} (m : Model I S) where
 
   -- the items are admitted, and each slot stands for those from its start to now
   abbrev pub Stands : List I → List (Slot S) → Type 0
-  Stands items slots = Admitted m items × All (StandsFor items) slots
+  Stands items slots = Admitted m items × AllByRecursion (StandsFor items) slots

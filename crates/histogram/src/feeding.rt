@@ -25,6 +25,6 @@ pub fn advance<T: Statistic>(
         return 0;
     }
     grow::<T>(slots, item, position);
-    let pruned = prune::<T>(slots, T::cut(loss));
+    let pruned = prune::<T>(slots, loss);
     expire(slots, pruned, w)
 }

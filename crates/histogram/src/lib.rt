@@ -1,4 +1,6 @@
 // The smooth histogram: slots, what one more item does to the kept ones, and what they read.
+#![tactic(auto)]
+
 mod expire;
 mod feeding;
 mod growth;

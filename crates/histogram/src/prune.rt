@@ -1,6 +1,6 @@
 // Pruning: of slots whose values are near each other, only the ends are kept.
 ghost use Rattle.std.specs.Prelude.{◌≡◌, ◌≤◌, length, take};
-ghost use Rattle.histogram.specs.Method.{near_values, near_by, thinned};
+ghost use Rattle.histogram.specs.Method.{near_values, near as near_slots, pruned};
 ghost use Rattle.histogram.specs.Thins.{Thins};
 
 use crate::slot::Slot;
@@ -13,16 +13,17 @@ fn near(cut: (u64, u64), older: u64, newer: u64) -> bool
     (cut.1.saturating_sub(cut.0) as u128) * (older as u128) <= (cut.1 as u128) * (newer as u128)
 }
 
-// Prunes the slots by a cut, and answers how many are kept at the front. One pass, and each slot's value is worked out once.
-pub(crate) fn prune<T: Statistic>(slots: &mut [Slot<T::State>], cut: (u64, u64)) -> usize
+// Prunes the slots, and answers how many are kept at the front. One pass, and each slot's value is worked out once.
+pub(crate) fn prune<T: Statistic>(slots: &mut [Slot<T::State>], loss: u32) -> usize
     ensures within { result ≤ length slots.old }
-    ensures left { result ≡ length (thinned (near_by T.Statistic.model cut) slots.old) }
-    ensures kept { take result slots.new ≡ thinned (near_by T.Statistic.model cut) slots.old }
-    ensures thins { Thins (near_by T.Statistic.model cut) slots.old (take result slots.new) }
+    ensures left { result ≡ length (pruned T.Statistic.model loss slots.old) }
+    ensures kept { take result slots.new ≡ pruned T.Statistic.model loss slots.old }
+    ensures thins { Thins (near_slots T.Statistic.model loss) slots.old (take result slots.new) }
 {
     if slots.is_empty() {
         return 0;
     }
+    let cut = T::cut(loss);
     let mut anchor = T::value(&slots[0].state);
     let mut last = anchor;
     let mut held = false; // is the last kept slot near the anchor, and not yet known to stay?

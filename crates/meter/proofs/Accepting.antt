@@ -5,13 +5,11 @@ use Rattle.std.proofs.lemmas.Bool.Decides.{nat_tests}
 use Rattle.std.proofs.lemmas.List.{take_all, take-take, take-append-le, length-take-le}
 use Rattle.statistic.specs.Model.{Model, Laws}
 use Rattle.histogram.specs.declared.slot.Slot.{Slot}
-use Rattle.histogram.specs.Kept.{kept_of}
 use Rattle.histogram.specs.Method.{window_start, fed, advanced}
 use Rattle.histogram.specs.Stands.{Stands}
 use Rattle.histogram.proofs.Lent.{with_a_free_slot, front_within}
 use Rattle.histogram.proofs.Standing.{stands_fed}
-use Rattle.histogram.proofs.Takes.{kept_more}
-use Rattle.meter.specs.Take.{Take, accepted, Carries}
+use Rattle.meter.specs.Take.{Take, accepted, Takes}
 
 pub take_min : {X : Type 0} (k : ℕ) (xs : List X) → take (min k (length xs)) xs ≡ take k xs
 take_min k xs = ⊎_elim (λ below. ap (λ n. take n xs) (omega arith)) (λ past. take_all (min k (length xs)) xs (omega arith) ∙ sym (take_all k xs past)) (cases_lt k (length xs))
@@ -34,10 +32,8 @@ kept_in_front ys rest kept r front long = take-append-le r ys rest (front_within
 pub room_is : {X : Type 0} (k : ℕ) (xs : List X) → ltb k (length xs) ≡ ltb (length (take k xs)) (length xs)
 room_is k xs = let long = length-take k xs in grind (arith, nat_tests)
 
-pub takes_accepted : {I S : Type 0} (m : Model I S) → Laws m → (t : Take S) (x : I) → m.admits x ≡ true → Carries m t (λ items. items ++ x ∷ []) (accepted m t x)
-takes_accepted m laws t x admits items (count, stands, slots) =
+pub takes_accepted : {I S : Type 0} (m : Model I S) → Laws m → (t : Take S) (x : I) → m.admits x ≡ true → (items : List I) → Takes m items t → Takes m (items ++ x ∷ []) (accepted m t x)
+takes_accepted m laws t x admits items (count, stands) =
     let w = window_start t.window (t.now + 1) in
     let standing = stands_fed m laws items x stands.0 admits w t.loss t.kept stands.1 in
-    let is : (accepted m t x).kept ≡ kept_of m (t.window, t.loss) (items ++ x ∷ []) =
-    (λ i. fed m x (count i + 1) (window_start t.window (count i + 1)) t.loss (slots i)) ∙ sym (kept_more m t.window t.loss items x) in
-    (simp length-append (omega arith), subst (λ n. Stands m (items ++ x ∷ []) (fed m x (n + 1) w t.loss t.kept)) (sym count) standing, is)
+    (simp length-append (omega arith), subst (λ n. Stands m (items ++ x ∷ []) (fed m x (n + 1) w t.loss t.kept)) (sym count) standing)

@@ -1,7 +1,2 @@
-pub mod Plays
-pub mod Promise
-pub mod Reach
-pub mod Runs
-pub mod Strings
 pub mod Take
 pub mod Verdicts

@@ -1,15 +1,13 @@
 -- A take, as the method sees it: what a running meter is to its caller. A reader must believe that these definitions say
 -- what the calls of a running meter answer and leave.
-use Rattle.std.specs.Prelude.{◌≡◌, ℕ, ◌+◌, ◌^◌, cond, List, [], ◌∷◌, ◌++◌, length, take, Some, None, Ok, Err, Option, Result, nat_le, nat_lt}
+use Rattle.std.specs.Prelude.{◌≡◌, ℕ, ◌+◌, ◌^◌, cond, List, [], ◌∷◌, ◌++◌, length, take, Some, None, Ok, Err, Option, Result, nat_lt}
 use Rattle.refusal.specs.declared.Refusal.{Refusal}
-use Rattle.refusal.specs.declared.Refusal.TheVariants.{ItemNotAdmitted, TakeAtLastPosition, NoFreeSlot, BlockTooLong}
+use Rattle.refusal.specs.declared.Refusal.TheVariants.{ItemNotAdmitted, TakeAtLastPosition, NoFreeSlot}
 use Rattle.statistic.specs.Model.{Model}
 use Rattle.histogram.specs.declared.slot.Slot.{Slot}
-use Rattle.histogram.specs.Kept.{kept_of}
 use Rattle.histogram.specs.Method.{window_start, fed, reading_of}
 use Rattle.histogram.specs.Stands.{Stands}
 use Rattle.meter.specs.declared.Running.{Running}
-use Rattle.meter.specs.declared.blocks.Taken.{Taken}
 
 pub record Take (S : Type 0) : Type 0 where
   -- how many slots the meter was given
@@ -34,15 +32,6 @@ begun given (window, loss) = record { given = given; window = window; loss = los
 abbrev pub answer : {A : Type 0} → Option Refusal → A → Result A Refusal
 answer None a = Ok a
 answer (Some e) a = Err e
-
--- what a block answers: how many of its items were taken, and the refusal that ended it, if one did
-abbrev pub taken : ℕ → Option Refusal → Taken
-taken count refusal = record { count = count; refusal = refusal }
-
--- the first item is taken and then those behind it, or it is refused
-abbrev pub first_then : Option Refusal → Taken → Taken
-first_then None rest = taken (1 + rest.count) rest.refusal
-first_then (Some e) rest = taken 0 (Some e)
 
 -- what a call leaves: the new where it is not refused, else the old
 abbrev pub unless : {A : Type 0} → Option Refusal → A → A → A
@@ -72,37 +61,15 @@ module _ {I S : Type 0} (m : Model I S) where
   abbrev pub after_feed : Take S → I → Take S
   after_feed t x = unless (refused t x) (accepted t x) t
 
-  -- the take after items are offered one by one, up to the first that is refused
-  abbrev pub after_items : Take S → List I → Take S
-  after_items t [] = t
-  after_items t (x ∷ xs) = unless (refused t x) (after_items (accepted t x) xs) t
-
-  -- how many of them are taken, and why no more are
-  abbrev pub items_answer : Take S → List I → Taken
-  items_answer t [] = taken 0 None
-  items_answer t (x ∷ xs) = first_then (refused t x) (items_answer (accepted t x) xs)
-
-  -- a block is asked for its length first
-  abbrev pub block_answer : Take S → List I → Taken
-  block_answer t xs = cond (nat_le (length xs) 4096) (items_answer t xs) (taken 0 (Some BlockTooLong))
-
-  abbrev pub after_block : Take S → List I → Take S
-  after_block t xs = cond (nat_le (length xs) 4096) (after_items t xs) t
-
   -- the reading, low and high
   abbrev pub read : Take S → ℕ × ℕ
   read t = reading_of m (window_start t.window t.now) t.kept
 
-  -- The take has accepted these items, oldest first: each kept slot's state stands for those from its start to now, and the
-  -- kept slots are those that the method keeps of the items.
+  -- The take has accepted these items, oldest first, and each kept slot's state stands for those from its start to now.
   abbrev pub Takes : List I → Take S → Type 0
-  Takes items t = (t.now ≡ length items) × Stands m items t.kept × (t.kept ≡ kept_of m (t.window, t.loss) items)
+  Takes items t = (t.now ≡ length items) × Stands m items t.kept
 
-  -- whatever items the take t had accepted, u is the take once there are more of them
-  abbrev pub Carries : Take S → (List I → List I) → Take S → Type 0
-  Carries t more u = (items : List I) → Takes items t → Takes (more items) u
-
--- the items of a take once others were fed and answered: they come after them, unless they were refused
-abbrev pub items_after : {I : Type 0} → Result ℕ Refusal → List I → List I → List I
-items_after (Ok position) others items = items ++ others
-items_after (Err e) others items = items
+-- the items that a take has accepted once a feed of x was answered
+abbrev pub items_after : {I : Type 0} → List I → I → Result ℕ Refusal → List I
+items_after items x (Ok position) = items ++ x ∷ []
+items_after items x (Err e) = items

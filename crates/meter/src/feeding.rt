@@ -1,10 +1,7 @@
 // Feeding a running meter.
-ghost use Rattle.std.specs.Prelude.{◌≡◌, ◌+◌, ◌^◌, ◌<◌, true, false, [], ◌∷◌, ◌++◌, length, is_ok, Some, nat_lt};
-ghost use Rattle.std.specs.Result.{result_err};
-ghost use Rattle.refusal.specs.declared.Refusal.TheVariants.{NoFreeSlot};
+ghost use Rattle.std.specs.Prelude.{◌≡◌, ◌+◌, ◌^◌, ◌<◌, true, false, List, [], ◌∷◌, ◌++◌, length, is_ok, nat_lt};
 ghost use Rattle.histogram.specs.Method.{window_start};
-ghost use Rattle.meter.specs.Promise.{NeverWants};
-ghost use Rattle.meter.specs.Take.{view, feed_answer, after_feed, accepted, items_after, Carries};
+ghost use Rattle.meter.specs.Take.{view, feed_answer, after_feed, accepted, items_after, Takes};
 
 use crate::Running;
 use histogram::advance;
@@ -22,8 +19,7 @@ impl<'a, T: Statistic> Running<'a, T> {
         ensures preset { self.exit.now.preset ≡ self.entry.now.preset }
         ensures count { is_ok result ≡ true → self.exit.now.kept ≡ length (view self.exit.now).kept }
         ensures refused { is_ok result ≡ false → self.exit.now ≡ self.entry.now }
-        ensures takes { Carries T.Statistic.model (view self.entry.now) (items_after result (item ∷ [])) (view self.exit.now) }
-        ensures wants { NeverWants T.Statistic.model (view self.entry.now) (result_err result) }
+        ensures takes { (items : List T.Item) → Takes T.Statistic.model items (view self.entry.now) → Takes T.Statistic.model (items_after items item result) (view self.exit.now) }
     {
         if !T::admits(item) {
             return Err(Refusal::ItemNotAdmitted);
@@ -41,7 +37,6 @@ impl<'a, T: Statistic> Running<'a, T> {
     fn has_room(&self) -> bool
         ensures value { result ≡ nat_lt (length (view self.entry.now).kept) (view self.entry.now).given }
         ensures within { result ≡ true → self.entry.now.kept < length self.entry.now.slots.now }
-        ensures wants { result ≡ false → NeverWants T.Statistic.model (view self.entry.now) (Some NoFreeSlot) }
     {
         self.kept < self.slots.len()
     }
@@ -55,7 +50,7 @@ impl<'a, T: Statistic> Running<'a, T> {
         ensures after { view self.exit.now ≡ accepted T.Statistic.model (view self.entry.now) item }
         ensures preset { self.exit.now.preset ≡ self.entry.now.preset }
         ensures count { self.exit.now.kept ≡ length (view self.exit.now).kept }
-        ensures takes { Carries T.Statistic.model (view self.entry.now) (λ items. items ++ item ∷ []) (view self.exit.now) }
+        ensures takes { (items : List T.Item) → Takes T.Statistic.model items (view self.entry.now) → Takes T.Statistic.model (items ++ item ∷ []) (view self.exit.now) }
     {
         let kept = self.kept;
         let now = self.now + 1;

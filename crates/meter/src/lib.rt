@@ -1,6 +1,7 @@
 // The meter: stopped and running, as two types. A stopped meter takes a preset and no item, a running one takes items and no
-// preset. This file holds the types; `takes`, `feeding`, `blocks` and `answers` have their calls, and `playing` makes a whole
-// string of them.
+// preset. This file holds the types; `takes`, `feeding` and `answers` have their calls.
+#![tactic(auto)]
+
 ghost use Rattle.std.specs.Prelude.{◌≡◌};
 
 use histogram::Slot;
@@ -8,18 +9,12 @@ use preset::Preset;
 use statistic::Statistic;
 
 mod answers;
-mod blocks;
-mod call;
 mod feeding;
-mod playing;
 mod takes;
 #[cfg(test)]
 mod tests;
 
 pub use answers::Verdict;
-pub use blocks::Taken;
-pub use call::{Answer, Call};
-pub use playing::{Played, play};
 
 // A meter between takes. The slots are lent to it, and hold anything.
 pub struct Stopped<'a, T: Statistic> {

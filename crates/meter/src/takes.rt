@@ -66,6 +66,6 @@ fn first_preset() -> Preset
 {
     match Preset::new(1, 500) {
         Ok(preset) => preset,
-        Err(_) => unreachable(),
+        Err(_) => unreachable!(),
     }
 }

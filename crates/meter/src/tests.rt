@@ -1,5 +1,5 @@
 // Takes from beginning to end, on a peak meter.
-use crate::{Answer, Call, Running, Stopped, Verdict, play};
+use crate::{Running, Stopped, Verdict};
 use histogram::Slot;
 use preset::Preset;
 use refusal::Refusal;
@@ -88,22 +88,8 @@ fn a_take_ends_at_its_last_position(rt: HostRuntime) -> Result<(), Fail> {
         now: (1 << 40) - 1,
         preset: Preset::new(1, 500)?,
     };
-    let taken = meter.block(&[1, 1]);
-    assert_eq!(rt; taken.count, 1);
-    assert_eq!(rt; taken.refusal, Some(Refusal::TakeAtLastPosition));
+    assert_eq!(rt; meter.feed(1), Ok(1 << 40));
     assert_eq!(rt; meter.feed(1), Err(Refusal::TakeAtLastPosition));
     assert_eq!(rt; meter.feed(32768), Err(Refusal::ItemNotAdmitted));
-    Ok(())
-}
-
-#[test]
-fn no_room_for_the_answers(rt: HostRuntime) -> Result<(), Fail> {
-    let mut slots = [Slot { start: 9, state: 7 }; 2];
-    let calls = vec![in rt.alloc(); Call::Start, Call::Feed(8)]?;
-    let mut answers = [Answer::Loaded; 1];
-    let played = play::<Peak>(&mut slots, &calls, &mut answers);
-    assert_eq!(rt; played.refusal, Some(Refusal::BufferTooShort));
-    assert_eq!(rt; played.kept, 0);
-    assert!(rt; matches!(answers[0], Answer::Loaded));
     Ok(())
 }

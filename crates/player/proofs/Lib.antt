@@ -1,3 +1,2 @@
-pub mod LineByLine
-pub mod Printing
-pub mod Trusting
+mod LineByLine
+mod Printing

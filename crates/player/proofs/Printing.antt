@@ -1,12 +1,12 @@
 -- Printing: an answer's text fits the line that it is written into, and is put at the end of what is printed.
-use Rattle.std.proofs.Common.{◌≡◌, ℕ, ◌+◌, ◌-◌, ◌^◌, ◌<◌, ◌≤◌, cond, List, ◌++◌, length, take, drop, is_ok, Ok, Err, vec_items, vec_len, vec_capacity, codes, Result, Vec, refl, ap, ◌∙◌, le_trans, arith, lit<, length-append, MatchResult}
+use Rattle.std.proofs.Common.{◌≡◌, ℕ, ◌+◌, ◌-◌, ◌^◌, ◌<◌, ◌≤◌, cond, List, ◌++◌, length, take, drop, is_ok, Ok, Err, vec_items, vec_len, vec_capacity, codes, Result, Vec, refl, ap, ◌∙◌, le_trans, arith, lit<, length-append, OnErr}
 use native.Mathlib.Nat.{sub-zero}
 use Rattle.std.proofs.lemmas.List.{take_at}
 use Rattle.std.proofs.lemmas.Bool.{le-leb}
 use Rattle.std.specs.Result.{result_unwrap_or}
 use Rattle.refusal.specs.Numbers.{number_of}
 use Rattle.refusal.specs.declared.Refusal.{Refusal}
-use Rattle.refusal.specs.declared.Refusal.TheVariants.{WindowOutOfRange, LossOutOfRange, ItemNotAdmitted, TakeAtLastPosition, NoFreeSlot, BlockTooLong, NotThreeLines, UnknownKind, MalformedNumber, MalformedEvent, BufferTooShort, SheetTooLong}
+use Rattle.refusal.specs.declared.Refusal.TheVariants.{WindowOutOfRange, LossOutOfRange, ItemNotAdmitted, TakeAtLastPosition, NoFreeSlot, NotThreeLines, UnknownKind, MalformedNumber, MalformedEvent, BufferTooShort, SheetTooLong}
 use Rattle.text.specs.Shown.{placed}
 use Rattle.sheet.specs.Answers.{number_line, reading_text, refusal_text}
 use Rattle.sheet.proofs.Pushes.{length-number_line}
@@ -24,7 +24,6 @@ number_small LossOutOfRange = lit< tt
 number_small ItemNotAdmitted = lit< tt
 number_small TakeAtLastPosition = lit< tt
 number_small NoFreeSlot = lit< tt
-number_small BlockTooLong = lit< tt
 number_small NotThreeLines = lit< tt
 number_small UnknownKind = lit< tt
 number_small MalformedNumber = lit< tt
@@ -42,7 +41,7 @@ pub front_of_line : (t blank line : List ℕ) (written : Result ℕ Refusal) (n 
 front_of_line t blank line written n fits w l e = rw (sub-zero, e, w, l, le-leb (length t) (length blank) fits) (take_at t (drop (length t) blank) (length t) refl)
 
 -- what is put at the end, once there is room for it
-pub put : {Z E : Type 0} (r : Result (Unit {0}) E) (before after : Vec ℕ Z) (more t : List ℕ) → vec_items after ≡ cond (is_ok r) (vec_items before ++ more) (vec_items before) → vec_capacity before ≤ vec_capacity after → MatchResult r (λ _. vec_len after ≡ vec_len before + length more) (λ _. vec_capacity before < vec_len before + length more) → more ≡ t → Prints before after t r
+pub put : {Z E : Type 0} (r : Result (Unit {0}) E) (before after : Vec ℕ Z) (more t : List ℕ) → vec_items after ≡ cond (is_ok r) (vec_items before ++ more) (vec_items before) → vec_capacity before ≤ vec_capacity after → OnErr r (vec_capacity before < vec_len before + length more) → more ≡ t → Prints before after t r
 put (Ok u) before after more t e grows fits same = (e ∙ ap (λ x. vec_items before ++ x) same, grows)
 put (Err x) before after more t e grows short same = omega (arith, short, before.ok.0, ap length same, length-append (vec_items before) t)
 

@@ -1,3 +1,2 @@
 pub mod Room
-pub mod Screen
 pub mod Sheet

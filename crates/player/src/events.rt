@@ -4,7 +4,6 @@ ghost use Rattle.std.specs.Result.{result_err};
 ghost use Rattle.preset.specs.Questions.{view as numbers};
 ghost use Rattle.meter.specs.Take.{view};
 ghost use Rattle.player.specs.Room.{Prints};
-ghost use Rattle.player.specs.Screen.{TakeTrusted};
 ghost use Rattle.player.specs.Sheet.{told, answer_to, leaves, take_prints};
 
 use crate::answer::Answer;
@@ -19,7 +18,7 @@ use std::alloc::AllocError;
 use text::next_line;
 
 // Plays the event lines on a meter over these slots, with this preset loaded. Each line is an event, and the first that is
-// none ends the sheet; so do bytes that no line end follows. What is answered is true of the items that the meter accepted.
+// none ends the sheet; so do bytes that no line end follows.
 pub(crate) fn play_events<T: Statistic>(
     slots: &mut [Slot<T::State>],
     preset: Preset,
@@ -28,8 +27,7 @@ pub(crate) fn play_events<T: Statistic>(
 ) -> Result<(), AllocError>
 where
     T::Item: ItemText,
-    ensures prints { Prints out.old out.new (take_prints T.Statistic.model T.Item.ItemText.meant (length slots.old) (numbers preset) events.now) result }
-    ensures trusted { TakeTrusted T.Statistic.model T.Item.ItemText.meant (length slots.old) (numbers preset) events.now }
+    ensures { Prints out.old out.new (take_prints T.Statistic.model T.Item.ItemText.meant (length slots.old) (numbers preset) events.now) result }
 {
     let mut stopped = Stopped::<T>::make(slots);
     stopped.load(preset);

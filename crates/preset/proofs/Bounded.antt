@@ -1,6 +1,6 @@
 -- How many numbers can fall from a top, every other one by more than a cut. From what `steps` counts.
 use Rattle.std.proofs.Common.{ℕ, zero, suc, ◌+◌, ◌-◌, ◌*◌, ◌<◌, ◌≤◌, List, [], ◌∷◌, length, le_refl, mul_comm, mul-le-mul_left, mul-zero, le-div_iff_mul-le, arith}
-use Rattle.std.specs.List.{AllByRecursion as All}
+use Rattle.std.specs.List.{AllByRecursion}
 use Rattle.preset.specs.Wanted.{fall, steps, Proper}
 use Rattle.preset.proofs.Falls.{fall_lowers, steps_fall}
 
@@ -61,6 +61,6 @@ module _ (cut : ℕ × ℕ) (proper : Proper cut) where
     bounded_from a (b ∷ c ∷ rest) h = omega (arith, bounded_from c rest (apart_behind told cut b c rest h.1), one_step (told a) (told c) h.0)
 
     -- Where none tells more than a top, they are at most two more than twice the falls of the top.
-    pub bounded : (top : ℕ) (xs : List X) → All (λ x. told x ≤ top) xs → Apart told cut xs → length xs ≤ 2 * steps cut top + 2
+    pub bounded : (top : ℕ) (xs : List X) → AllByRecursion (λ x. told x ≤ top) xs → Apart told cut xs → length xs ≤ 2 * steps cut top + 2
     bounded top [] below h = omega arith
     bounded top (a ∷ rest) below h = omega (arith, bounded_from a rest h, steps_mono (told a) top below.0)

@@ -1,5 +1,7 @@
 // What a meter measures with: the window, in items, and the loss that its readings may have, in thousandths. The file
 // holds the type alone, with its invariant; `questions` has its calls, and `wanted` the slots that a meter wants at it.
+#![tactic(auto)]
+
 ghost use Rattle.std.specs.Prelude.{◌≤◌};
 ghost use Rattle.statistic.specs.Model.{IsLoss};
 

@@ -8,8 +8,8 @@ use statistic::Statistic;
 
 // One slot more than a meter ever keeps: a new item takes a slot before the old ones are pruned.
 pub fn slots_wanted<T: Statistic>(preset: &Preset) -> usize
-    ensures value { result ≡ wanted model (view preset.now) }
-    ensures count { Counts (model.cut preset.now.loss) model.top (steps (model.cut preset.now.loss) model.top) }
+    ensures value { result ≡ wanted T.Statistic.model (view preset.now) }
+    ensures count { Counts (T.Statistic.model.cut preset.now.loss) T.Statistic.model.top (steps (T.Statistic.model.cut preset.now.loss) T.Statistic.model.top) }
 {
     most_kept(T::cut(preset.loss()), T::top(), preset.window()) + 1
 }
@@ -17,7 +17,7 @@ pub fn slots_wanted<T: Statistic>(preset: &Preset) -> usize
 // The walk down from the top stops as soon as the window is the smaller number, so it takes at most half the window's
 // turns, however many steps the top has.
 fn most_kept(cut: (u64, u64), top: u64, window: u32) -> usize
-    requires { (Proper cut) × (top * cut.1 < 2 ^ 63) }
+    requires { Proper cut × (top * cut.1 < 2 ^ 63) }
     ensures value { result ≡ most_kept cut top window }
     ensures count { Counts cut top (steps cut top) }
 {

@@ -1,4 +1,3 @@
 pub mod Accepted
-pub mod SameBytes
 pub mod Three
 pub mod Written

@@ -42,7 +42,7 @@ word_short Energy = omega arith
 word_short Peak = omega arith
 word_short Notes = omega arith
 
-module _ (k : Kind) (w l : ℕ) (w-low : 1 ≤ w) (w-high : w ≤ 1048576) (l-low : 1 ≤ l) (l-high : l ≤ 999) where
+module _ (k : Kind) (w l : ℕ) (w_low : 1 ≤ w) (w_high : w ≤ 1048576) (l_low : 1 ≤ l) (l_high : l ≤ 999) where
   three_written : three_lines (written k (w, l)) ≡ Ok ((word k, decimal w, decimal l), [])
   unfolding written
   three_written =
@@ -53,7 +53,7 @@ module _ (k : Kind) (w l : ℕ) (w-low : 1 ≤ w) (w-high : w ≤ 1048576) (l-lo
 
   answered_written : answered (word k, decimal w, decimal l) ≡ Ok (k, (w, l))
   unfolding answered
-  answered_written = rw (named_word k, spelled_decimal 7 w (omega arith) (omega arith) (omega arith), spelled_decimal 7 l (omega arith) (omega arith) (omega arith), le-leb 1 w w-low, le-leb w 1048576 w-high, le-leb 1 l l-low, le-leb l 999 l-high)
+  answered_written = rw (named_word k, spelled_decimal 7 w (omega arith) (omega arith) (omega arith), spelled_decimal 7 l (omega arith) (omega arith) (omega arith), le-leb 1 w w_low, le-leb w 1048576 w_high, le-leb 1 l l_low, le-leb l 999 l_high)
 
   pub read_written : read_text (written k (w, l)) ≡ Ok (k, (w, l))
   read_written = rw three_written answered_written
@@ -64,18 +64,18 @@ module _ (k : Kind) (w l : ℕ) (w-low : 1 ≤ w) (w-high : w ≤ 1048576) (l-lo
       simp length-append (omega (arith, word_short k, length-decimal-le 7 w (omega arith) (omega arith) (omega arith), length-decimal-le 3 l (omega arith) (omega arith) (omega arith)))
 
   -- the pieces put one behind the other
-  module _ {s₀ s₁ s₂ s₃ s₄ s₅ s₆ s₇ named-so : List ℕ} {w' l' : ℕ} where
-    pub written_in_pieces : s₀ ≡ [] → s₁ ≡ take 64 (s₀ ++ codes "kind=") → named-so ≡ word k → s₂ ≡ take 64 (s₁ ++ named-so) → s₃ ≡ take 64 (s₂ ++ 10 ∷ codes "window=") → w' ≡ w → s₄ ≡ take 64 (s₃ ++ decimal w') → s₅ ≡ take 64 (s₄ ++ 10 ∷ codes "loss=") → l' ≡ l → s₆ ≡ take 64 (s₅ ++ decimal l') → s₇ ≡ take 64 (s₆ ++ 10 ∷ []) → s₇ ≡ written k (w, l)
+  module _ {s₀ s₁ s₂ s₃ s₄ s₅ s₆ s₇ named_so : List ℕ} {w' l' : ℕ} where
+    pub written_in_pieces : s₀ ≡ [] → s₁ ≡ take 64 (s₀ ++ codes "kind=") → named_so ≡ word k → s₂ ≡ take 64 (s₁ ++ named_so) → s₃ ≡ take 64 (s₂ ++ 10 ∷ codes "window=") → w' ≡ w → s₄ ≡ take 64 (s₃ ++ decimal w') → s₅ ≡ take 64 (s₄ ++ 10 ∷ codes "loss=") → l' ≡ l → s₆ ≡ take 64 (s₅ ++ decimal l') → s₇ ≡ take 64 (s₆ ++ 10 ∷ []) → s₇ ≡ written k (w, l)
     unfolding written
-    written_in_pieces e₀ e₁ n e₂ e₃ w-is e₄ e₅ l-is e₆ e₇ =
+    written_in_pieces e₀ e₁ n e₂ e₃ w_is e₄ e₅ l_is e₆ e₇ =
         let t₂ : List ℕ = codes "kind=" ++ word k in
         let t₃ : List ℕ = t₂ ++ 10 ∷ codes "window=" in
         let t₄ : List ℕ = t₃ ++ decimal w in
         let t₅ : List ℕ = t₄ ++ 10 ∷ codes "loss=" in
         let t₆ : List ℕ = t₅ ++ decimal l in
         let kind = pushed _ _ (codes "kind=") _ (pushed _ _ [] _ e₀ e₁) (e₂ ∙ ap (λ x. take 64 (s₁ ++ x)) n) in
-        let window = pushed _ _ t₃ _ (pushed _ _ t₂ _ kind e₃) (e₄ ∙ ap (λ x. take 64 (s₃ ++ decimal x)) w-is) in
-        let loss = pushed _ _ t₅ _ (pushed _ _ t₄ _ window e₅) (e₆ ∙ ap (λ x. take 64 (s₅ ++ decimal x)) l-is) in
+        let window = pushed _ _ t₃ _ (pushed _ _ t₂ _ kind e₃) (e₄ ∙ ap (λ x. take 64 (s₃ ++ decimal x)) w_is) in
+        let loss = pushed _ _ t₅ _ (pushed _ _ t₄ _ window e₅) (e₆ ∙ ap (λ x. take 64 (s₅ ++ decimal x)) l_is) in
         let regrouped : t₆ ++ 10 ∷ [] ≡ written k (w, l) = simp append_assoc in
         pushed _ _ t₆ _ loss e₇ ∙ ap (take 64) regrouped ∙ take_all 64 (written k (w, l)) (omega (arith, written_short))
 

@@ -1,4 +1,6 @@
 // The preset text: a kind and a preset as three lines that hosts keep and people read.
+#![tactic(auto)]
+
 mod header;
 mod kind;
 mod line;

@@ -1,7 +1,7 @@
 -- The number of each refusal. A reader must believe this table: hosts and answer lines know a refusal by nothing else.
 use Rattle.std.specs.Prelude.{ℕ}
 use Rattle.refusal.specs.declared.Refusal.{Refusal}
-use Rattle.refusal.specs.declared.Refusal.TheVariants.{WindowOutOfRange, LossOutOfRange, ItemNotAdmitted, TakeAtLastPosition, NoFreeSlot, BlockTooLong, NotThreeLines, UnknownKind, MalformedNumber, MalformedEvent, BufferTooShort, SheetTooLong}
+use Rattle.refusal.specs.declared.Refusal.TheVariants.{WindowOutOfRange, LossOutOfRange, ItemNotAdmitted, TakeAtLastPosition, NoFreeSlot, NotThreeLines, UnknownKind, MalformedNumber, MalformedEvent, BufferTooShort, SheetTooLong}
 
 abbrev pub number_of : Refusal → ℕ
 number_of WindowOutOfRange = 1
@@ -9,7 +9,6 @@ number_of LossOutOfRange = 2
 number_of ItemNotAdmitted = 3
 number_of TakeAtLastPosition = 4
 number_of NoFreeSlot = 5
-number_of BlockTooLong = 6
 number_of NotThreeLines = 7
 number_of UnknownKind = 8
 number_of MalformedNumber = 9

@@ -1,4 +1,6 @@
 // Why a call of the pack refuses: one enum for all calls, each case named by its content and known to hosts by its number.
+#![tactic(auto)]
+
 ghost use Rattle.std.specs.Prelude.{◌≡◌};
 ghost use Rattle.refusal.specs.Numbers.{number_of};
 
@@ -14,8 +16,6 @@ pub enum Refusal {
     TakeAtLastPosition,
     // every slot given is in use
     NoFreeSlot,
-    // a block has more than 4,096 items
-    BlockTooLong,
     // a text has not the three lines of a preset
     NotThreeLines,
     // a preset text names a kind that the pack does not have
@@ -41,7 +41,6 @@ impl Refusal {
             Refusal::ItemNotAdmitted => 3,
             Refusal::TakeAtLastPosition => 4,
             Refusal::NoFreeSlot => 5,
-            Refusal::BlockTooLong => 6,
             Refusal::NotThreeLines => 7,
             Refusal::UnknownKind => 8,
             Refusal::MalformedNumber => 9,

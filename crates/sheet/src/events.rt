@@ -8,7 +8,7 @@ use text::read_number;
 
 // The event of a line, which is given without its line end.
 pub fn read_event<I: ItemText>(line: &[u8]) -> Option<Event<I>>
-    ensures { result ≡ event_of meant line.now }
+    ensures { result ≡ event_of I.ItemText.meant line.now }
 {
     let [letter, b'=', rest @ ..] = line else {
         return None;

@@ -1,4 +1,6 @@
 // The lines of a take sheet: the events that are read from it and the answers that are written for it.
+#![tactic(auto)]
+
 mod answers;
 mod event;
 mod events;

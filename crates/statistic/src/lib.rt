@@ -1,4 +1,6 @@
 // A statistic over a list of items, and the three kinds that the pack ships.
+#![tactic(auto)]
+
 ghost use Rattle.std.specs.Prelude.{◌≡◌, []};
 ghost use Rattle.statistic.specs.Model.{Model, Laws};
 

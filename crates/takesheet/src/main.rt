@@ -1,4 +1,6 @@
 // Plays the sheet on standard input, and writes what it prints to standard output.
+#![tactic(auto)]
+
 use player::{bytes_enough, play};
 use std::io::{Read, Write};
 

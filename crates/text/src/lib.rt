@@ -1,4 +1,6 @@
 // Decimal numbers, lines and short texts, all as bytes: what the preset text and the take sheet are read and written with.
+#![tactic(auto)]
+
 mod line;
 mod number;
 mod short;

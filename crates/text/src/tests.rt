@@ -24,8 +24,8 @@ fn numbers_at_the_edges(rt: HostRuntime) {
 #[test]
 fn the_first_line_and_the_text_behind(rt: HostRuntime) -> Result<(), Fail> {
     let (line, rest) = next_line(b"a=1\n\nb").ok_or("no line")?;
-    assert_eq!(rt; line, b"a=1");
-    assert_eq!(rt; rest, b"\nb");
+    assert_eq!(rt; line, b"a=1".as_slice());
+    assert_eq!(rt; rest, b"\nb".as_slice());
     assert!(rt; next_line(b"a=1").is_none());
     Ok(())
 }
@@ -35,7 +35,7 @@ fn a_short_text_stops_at_its_end(rt: HostRuntime) -> Result<(), Fail> {
     let mut text = Short::new();
     text.push(b"n=");
     text.push_number(18_446_744_073_709_551_615);
-    assert_eq!(rt; text.as_bytes(), b"n=18446744073709551615");
+    assert_eq!(rt; text.as_bytes(), b"n=18446744073709551615".as_slice());
     let mut out = [1u8; 23];
     assert_eq!(rt; text.write_to(&mut out)?, 22);
     assert_eq!(rt; out[22], 1);

@@ -6,8 +6,8 @@ use Rattle.histogram.specs.Method.{with_item, empty_slot}
 use Rattle.histogram.proofs.Lent.{filled}
 use Rattle.histogram.proofs.growth.grow.Goals as goal
 
-pub offset-bounds-slots-last : goal.offset-bounds-slots-last
-offset-bounds-slots-last g c =
+pub offset_bounds-slots-last : goal.offset_bounds-slots-last
+offset_bounds-slots-last g c =
     let within : length c.args.slots.now - 1 < length c.args.slots.now = omega arith in
     search rules
 
@@ -18,9 +18,9 @@ returns g c =
     let xs = c.args.slots.now in
     let n = length xs - 1 in
     let position = c.args.position in
-    let kept = c.add-to-all.new.slots in
+    let kept = c.add_to_all.new.slots in
     let new : c.add.new.state ≡ (with_item m x (empty_slot m position)).state = c.add.ensures ∙ ap (λ s. m.add s x) c.empty-state.ensures in
-    let added : kept ≡ map (with_item m x) (take n xs) = c.add-to-all.ensures ∙ ap (λ k. map (with_item m x) (take k xs)) (sub-zero n) in
+    let added : kept ≡ map (with_item m x) (take n xs) = c.add_to_all.ensures ∙ ap (λ k. map (with_item m x) (take k xs)) (sub-zero n) in
     let long : length kept ≡ n = ap length added ∙ length-map (take n xs) (with_item m x) ∙ length-take-le n xs (omega arith) in
     ap (λ k. set (kept ++ drop k xs) n (record { start = position; state = c.add.new.state })) (sub-zero n)
     ∙ filled kept xs (record { start = position; state = c.add.new.state }) n c.requires refl long

@@ -1,5 +1,5 @@
 use Rattle.std.proofs.Common.{◌≡◌, ◌≤◌, take, drop}
-use Rattle.histogram.specs.Method.{told, near_values, near_by, thinned}
+use Rattle.histogram.specs.Method.{told, near_values, pruned}
 use Rattle.histogram.proofs.Thinning.{Sofar}
 use Rattle.histogram.proofs.prune.prune.Given as goal
 
@@ -8,4 +8,4 @@ abbrev pub invariant-loop-i : goal.invariant-loop-i
 invariant-loop-i g l =
     let m = g.T.Statistic.model in
     (1 ≤ l.count) × (l.count ≤ l.i) × (drop l.i l.slots ≡ drop l.i l.initial.slots)
-    × Sofar (told m) (near_values l.cut) (thinned (near_by m l.cut) l.initial.slots) (take l.count l.slots) (drop l.i l.initial.slots) l.anchor l.last l.held
+    × Sofar (told m) (near_values (m.cut l.loss)) (pruned m l.loss l.initial.slots) (take l.count l.slots) (drop l.i l.initial.slots) l.anchor l.last l.held

@@ -19,12 +19,12 @@ returns g c =
     let w = window_start r.preset.window next in
     let one_more : n ≡ r.kept + 1 = sub-zero (r.kept + 1) in
     let long : length (ys ++ drop n xs) ≡ length xs = put_back xs ys n (omega (arith, c.requires.room)) c.advance-self.auto.slots in
-    let is : advanced m x next c.window-start-w.result c.loss-loss.result (take n xs) ≡ (accepted m t x).kept =
-    ap (λ k. advanced m x next c.window-start-w.result c.loss-loss.result (take k xs)) one_more
-    ∙ lent m x next c.window-start-w.result c.loss-loss.result r.kept xs c.requires.room
-    ∙ ap (λ v. fed m x next v c.loss-loss.result (take r.kept xs)) c.window-start-w.ensures
+    let is : advanced m x next c.window_start-w.result c.loss-loss.result (take n xs) ≡ (accepted m t x).kept =
+    ap (λ k. advanced m x next c.window_start-w.result c.loss-loss.result (take k xs)) one_more
+    ∙ lent m x next c.window_start-w.result c.loss-loss.result r.kept xs c.requires.room
+    ∙ ap (λ v. fed m x next v c.loss-loss.result (take r.kept xs)) c.window_start-w.ensures
     ∙ ap (λ v. fed m x next w v (take r.kept xs)) c.loss-loss.ensures in
-    let in-front = kept_in_front ys (drop n xs) (advanced m x next c.window-start-w.result c.loss-loss.result (take n xs)) left c.advance-self.ensures.kept c.advance-self.ensures.left in
+    let in-front = kept_in_front ys (drop n xs) (advanced m x next c.window_start-w.result c.loss-loss.result (take n xs)) left c.advance-self.ensures.kept c.advance-self.ensures.left in
     let kept : take left (ys ++ drop n xs) ≡ (accepted m t x).kept = in-front ∙ is in
     let after : record { given = length (ys ++ drop n xs); window = t.window; loss = t.loss; now = next; kept = take left (ys ++ drop n xs) } ≡ accepted m t x = λ i. record { given = long i; window = t.window; loss = t.loss; now = next; kept = kept i } in
     record {

@@ -13,8 +13,8 @@ returns g c =
     let t = view c.args.meter in
     let says : c.match-event.answer ≡ answer_to m t c.args.event = elim c.match-event.branch [
       | in-Feed w ↦ w.answer-is ∙ w.told-answer.ensures ∙ ap told (ap result_err w.feed.ensures.answer ∙ refused_as (refused m t w.in-Feed.item) _) ∙ ap (answer_to m t) (sym w.in-Feed.is)
-      | in-Read w ↦ w.answer-is ∙ ap (λ r. Reading r.0 r.1) w.read-low.ensures.value ∙ ap (answer_to m t) (sym w.in-Read.is)
-      | in-Mark w ↦ w.answer-is ∙ ap (λ v. Judged v) w.judge.ensures.value ∙ ap (answer_to m t) (sym w.in-Mark.is)
+      | in-Read w ↦ w.answer-is ∙ ap (λ r. Reading r.0 r.1) w.read-low.ensures ∙ ap (answer_to m t) (sym w.in-Read.is)
+      | in-Mark w ↦ w.answer-is ∙ ap (λ v. Judged v) w.judge.ensures ∙ ap (answer_to m t) (sym w.in-Mark.is)
       | in-Restart w ↦ w.answer-is ∙ ap (answer_to m t) (sym w.in-Restart.is)
     ] in
     let goes : view c.match-event.meter ≡ leaves m t c.args.event = elim c.match-event.branch [

@@ -4,14 +4,14 @@ use Rattle.preset.proofs.Falls.{fall_lowers, steps_fall, steps_count}
 use Rattle.preset.proofs.wanted.most_kept.Goals as goal
 use Rattle.preset.proofs.wanted.most_kept.Goals.{then-loop-v-test+else-slots-window, else-loop-v-test}
 
-pub overflow-mul-v : goal.overflow-mul-v
-overflow-mul-v c =
+pub overflow_mul-v : goal.overflow_mul-v
+overflow_mul-v c =
     let d = c.args.cut.1 in
     let low : d - c.args.cut.0 ≤ d = omega arith in
     omega (arith, mul-le-mul low c.loop-v.invariant.0, mul_comm d c.args.top)
 
-pub overflow-sub-v-in-loop-v : goal.overflow-sub-v-in-loop-v
-overflow-sub-v-in-loop-v c =
+pub overflow_sub-v-in-loop-v : goal.overflow_sub-v-in-loop-v
+overflow_sub-v-in-loop-v c =
     let room : 0 < c.args.cut.1 - c.args.cut.0 = omega arith in
     mul-pos room c.loop-v-test.true
 

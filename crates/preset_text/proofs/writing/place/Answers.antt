@@ -11,8 +11,8 @@ returns c =
     let p = c.args.preset.now in
     let out = c.args.out.now in
     let t = written c.args.kind (view p) in
-    let answered = c.write-to.ensures.answer ∙ ap (λ s. (placed s out).0) c.requires in
-    let left = c.write-to.ensures.after ∙ ap (λ s. (placed s out).1) c.requires in
+    let answered = c.write_to.ensures.answer ∙ ap (λ s. (placed s out).0) c.requires in
+    let left = c.write_to.ensures.after ∙ ap (λ s. (placed s out).1) c.requires in
     record {
       answer = answered;
       buffer = left;

@@ -7,5 +7,5 @@ use Rattle.sheet.proofs.answers.number_line.Goals as goal
 pub returns : goal.returns
 returns c =
     let name = c.args.name.now in
-    first_push (shown c.new-text.result) (shown c.push-number-line.new.text) (number_line name c.args.n) c.new-text.ensures c.push-number-line.ensures
+    first_push (shown c.new-text.result) (shown c.push_number_line.new.text) (number_line name c.args.n) c.new-text.ensures c.push_number_line.ensures
     (omega (arith, length-number_line name c.args.n (omega arith)))

@@ -17,19 +17,19 @@ module _ {I : Type 0} (item : List ℕ → Option I) (t : List ℕ) where
   marked : (o : Option ℕ) → get_or t 0 0 ≡ 109 → get_or t 1 0 ≡ 61 → o ≡ spelled 16 (take (length t - 2) (drop 2 t)) → option_map (λ n. Mark n) o ≡ event_of item t
   marked o first second e = rw e (lettered 109 first second)
 
-pub returns-in-err-read-item : goal.returns-in-err-read-item
-returns-in-err-read-item g c =
-    c.from-residual.ensures ∙ fed g.I.ItemText.meant c.args.line.now None (omega arith) (omega arith) c.in-err-read-item.ensures
+pub returns-in_err-read_item-in-f : goal.returns-in_err-read_item-in-f
+returns-in_err-read_item-in-f g c =
+    c.from_residual.ensures ∙ fed g.I.ItemText.meant c.args.line.now None (omega arith) (omega arith) c.in_err-read_item-in-f.ensures
 
-pub returns-in-err-read-number : goal.returns-in-err-read-number
-returns-in-err-read-number g c =
-    c.from-residual-in-err-read-number.ensures
-    ∙ marked g.I.ItemText.meant c.args.line.now None (omega arith) (omega arith) c.in-err-read-number.ensures
+pub returns-in_err-read_number-in-m : goal.returns-in_err-read_number-in-m
+returns-in_err-read_number-in-m g c =
+    c.from_residual-in_err-read_number-in-m.ensures
+    ∙ marked g.I.ItemText.meant c.args.line.now None (omega arith) (omega arith) c.in_err-read_number-in-m.ensures
 
-pub returns-in-ok-read-item : goal.returns-in-ok-read-item
-returns-in-ok-read-item g c =
-    fed g.I.ItemText.meant c.args.line.now (Some c.in-ok-read-item.field-0) (omega arith) (omega arith) c.in-ok-read-item.ensures
+pub returns-in_ok-read_item-in-f : goal.returns-in_ok-read_item-in-f
+returns-in_ok-read_item-in-f g c =
+    fed g.I.ItemText.meant c.args.line.now (Some c.in_ok-read_item-in-f.field-0) (omega arith) (omega arith) c.in_ok-read_item-in-f.ensures
 
-pub returns-in-ok-read-number : goal.returns-in-ok-read-number
-returns-in-ok-read-number g c =
-    marked g.I.ItemText.meant c.args.line.now (Some c.in-ok-read-number.field-0) (omega arith) (omega arith) c.in-ok-read-number.ensures
+pub returns-in_ok-read_number-in-m : goal.returns-in_ok-read_number-in-m
+returns-in_ok-read_number-in-m g c =
+    marked g.I.ItemText.meant c.args.line.now (Some c.in_ok-read_number-in-m.field-0) (omega arith) (omega arith) c.in_ok-read_number-in-m.ensures

@@ -9,12 +9,12 @@ use Rattle.sheet.proofs.items.hit_behind.Goals as goal
 from_parts : (k : ℕ) (t : List ℕ) (n v : Option ℕ) → n ≡ spelled 3 (take (k - 0) t) → v ≡ spelled 3 (take (length t - (k + 1)) (drop (k + 1) t)) → hit_from n v ≡ hit_behind k t
 from_parts k t n v p q = rw (p, q, sub-zero, take_rest t (k + 1))
 
-pub returns-in-err-velocity : goal.returns-in-err-velocity
-returns-in-err-velocity c =
-    c.from-residual-in-err-velocity.ensures
-    ∙ from_parts c.args.k c.args.text.now (Some c.in-ok-note.field-0) None c.in-ok-note.ensures.value c.in-err-velocity.ensures.value
+pub returns-in_err-velocity : goal.returns-in_err-velocity
+returns-in_err-velocity c =
+    c.from_residual-in_err-velocity.ensures
+    ∙ from_parts c.args.k c.args.text.now (Some c.in_ok-note.field-0) None c.in_ok-note.ensures.value c.in_err-velocity.ensures.value
 
 pub returns : goal.returns
 returns c =
-    from_parts c.args.k c.args.text.now (Some c.in-ok-note.field-0) (Some c.in-ok-velocity.field-0) c.in-ok-note.ensures.value
-    c.in-ok-velocity.ensures.value
+    from_parts c.args.k c.args.text.now (Some c.in_ok-note.field-0) (Some c.in_ok-velocity.field-0) c.in_ok-note.ensures.value
+    c.in_ok-velocity.ensures.value

@@ -13,21 +13,21 @@ below_nought : (n : ℕ) → 0 < n → n < 10 ^ 7 → Some (to_z w32 (of_z w32 (
 below_nought zero some small = absurd (omega arith)
 below_nought (suc n) some small = ap (λ z. Some z) (omega (arith, ints))
 
-pub returns-in-err-n : goal.returns-in-err-n
-returns-in-err-n c =
+pub returns-in_err-n : goal.returns-in_err-n
+returns-in_err-n c =
     let t = c.args.text.now in
     let first : get_or t 0 0 ≡ 45 = omega arith in
-    c.from-residual.ensures ∙ minus t None first c.in-err-n.ensures.value
+    c.from_residual.ensures ∙ minus t None first c.in_err-n.ensures.value
 
 pub returns-in-0 : goal.returns-in-0
 returns-in-0 c =
     let t = c.args.text.now in
     let first : get_or t 0 0 ≡ 45 = omega arith in
-    ap negative (sym c.in-0.is) ∙ minus t (Some c.in-ok-n.n) first c.in-ok-n.ensures.value
+    ap negative (sym c.in-0.is) ∙ minus t (Some c.in_ok-n.n) first c.in_ok-n.ensures.value
 
-pub returns-in-default-2 : goal.returns-in-default-2
-returns-in-default-2 c =
+pub returns-in_default-2 : goal.returns-in_default-2
+returns-in_default-2 c =
     let t = c.args.text.now in
     let first : get_or t 0 0 ≡ 45 = omega arith in
-    below_nought c.in-ok-n.n (omega arith) c.in-ok-n.ensures.bound
-    ∙ minus t (Some c.in-ok-n.n) first c.in-ok-n.ensures.value
+    below_nought c.in_ok-n.n (omega arith) c.in_ok-n.ensures.bound
+    ∙ minus t (Some c.in_ok-n.n) first c.in_ok-n.ensures.value

@@ -8,6 +8,6 @@ pub returns : goal.returns
 returns t c =
     let n = c.args.n in
     elim c.if-n-ge10.branch [
-      | then-n-ge10 w ↦ digit_behind n _ _ c.push.ensures w.if-n-ge10.true (omega arith) (ap shown w.digits-is ∙ w.digits-of-digits.ensures)
+      | then-n-ge10 w ↦ digit_behind n _ _ c.push.ensures w.if-n-ge10.true (omega arith) (ap shown w.digits-is ∙ w.digits_of-digits.ensures)
       | else-n-ge10 w ↦ digit_alone n _ _ c.push.ensures w.if-n-ge10.false (ap shown w.digits-is ∙ w.new-digits.ensures)
     ]
