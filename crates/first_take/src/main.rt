@@ -23,7 +23,7 @@ fn main(rt: HostRuntime) -> io::Result<()> {
     for sample in [-8, 4, 5, 40000, 1] {
         match meter.offer(sample) {
             Ok(position) => println!(rt; "{sample} is item {position}")?,
-            Err(refusal) => println!(rt; "{sample} is refused, number {}", refusal.number())?,
+            Err(refusal) => println!(rt; "{sample} is {refusal}")?,
         }
     }
     let (low, high) = meter.read();

@@ -1,36 +1,26 @@
 -- What expiry keeps, one slot after another and as a whole. Assumes nothing.
-use Rattle.std.proofs.Common.{◌≡◌, ℕ, ◌+◌, ◌-◌, ◌<◌, ◌≤◌, true, false, cond, leb, List, [], ◌∷◌, length, get_or, take, drop, sym, refl, ap, ◌∙◌, zero-add, arith, length-drop, length-take}
+use Rattle.std.proofs.Common.{◌≡◌, ℕ, ◌+◌, ◌-◌, ◌≤◌, true, false, cond, leb, List, [], ◌∷◌, length, take, drop, sym, refl, ap, ◌∙◌, zero-add, one-add, arith, length-drop}
 use lib.Seq.{paste}
+use Rattle.std.specs.List.{prefix_len}
+use Rattle.std.proofs.lemmas.List.{take_rest}
+use Rattle.std.proofs.lemmas.List.Sums.{prefix_len-le-length}
 use Rattle.std.proofs.lemmas.List.Edits.{take-paste}
-use Rattle.std.proofs.lemmas.List.{drop_more, drop-take}
-use Rattle.std.proofs.lemmas.Bool.{le-leb, lt-leb}
 use Rattle.histogram.specs.declared.slot.Slot.{Slot}
 use Rattle.histogram.specs.Method.{unexpired}
 
-module _ {S : Type 0} (w : ℕ) where
-  one_left : (ys : List (Slot S)) → length ys ≤ 1 → unexpired w ys ≡ ys
-  one_left [] h = refl
-  one_left (s ∷ []) h = refl
-  one_left (s ∷ t ∷ ts) h = absurd (omega arith)
+-- how many are passed: behind the first, as many as start at or before w
+abbrev passed : {S : Type 0} → ℕ → List (Slot S) → ℕ
+passed w slots = prefix_len (λ slot. leb slot.start w) (drop 1 slots)
 
-  -- with no second slot, all stay
-  pub at_last : (xs : List (Slot S)) (i : ℕ) → length xs ≤ i + 1 → unexpired w (drop i xs) ≡ drop i xs
-  at_last xs i h = one_left (drop i xs) (simp length-drop (omega arith))
+pub passed_within : {S : Type 0} (w : ℕ) (slots : List (Slot S)) → passed w slots ≤ length slots
+passed_within w slots = omega (arith, prefix_len-le-length (λ slot. leb slot.start w) (drop 1 slots), length-drop 1 slots)
 
-  two : (xs : List (Slot S)) (i : ℕ) (d : Slot S) → i + 1 < length xs → drop i xs ≡ get_or xs i d ∷ get_or xs (i + 1) d ∷ drop (i + 1 + 1) xs
-  two xs i d h = drop_more xs i d (omega arith) ∙ ap (λ l. get_or xs i d ∷ l) (drop_more xs (i + 1) d h)
-
-  -- the second slot starts at or before w: the first is dropped
-  pub one_passed : (xs : List (Slot S)) (i : ℕ) (d : Slot S) → i + 1 < length xs → (get_or xs (i + 1) d).start ≤ w → unexpired w (drop (i + 1) xs) ≡ unexpired w (drop i xs)
-  one_passed xs i d h e =
-      let rest : unexpired w (get_or xs i d ∷ get_or xs (i + 1) d ∷ drop (i + 1 + 1) xs) ≡ unexpired w (get_or xs (i + 1) d ∷ drop (i + 1 + 1) xs) = rw (le-leb (get_or xs (i + 1) d).start w e) in
-      ap (unexpired w) (drop_more xs (i + 1) d h) ∙ sym rest ∙ sym (ap (unexpired w) (two xs i d h))
-
-  -- it starts after w: all stay
-  pub none_passed : (xs : List (Slot S)) (i : ℕ) (d : Slot S) → i + 1 < length xs → w < (get_or xs (i + 1) d).start → unexpired w (drop i xs) ≡ drop i xs
-  none_passed xs i d h e =
-      let rest : unexpired w (get_or xs i d ∷ get_or xs (i + 1) d ∷ drop (i + 1 + 1) xs) ≡ get_or xs i d ∷ get_or xs (i + 1) d ∷ drop (i + 1 + 1) xs = rw (lt-leb (get_or xs (i + 1) d).start w e) in
-      ap (unexpired w) (two xs i d h) ∙ rest ∙ sym (two xs i d h)
+pub drop-passed : {S : Type 0} (w : ℕ) (slots : List (Slot S)) → drop (passed w slots) slots ≡ unexpired w slots
+drop-passed w [] = refl
+drop-passed w (s ∷ []) = refl
+drop-passed w (s ∷ t ∷ ts) =
+    elim (leb t.start w) as (λ b. drop (cond b (1 + prefix_len (λ slot. leb slot.start w) ts) 0) (s ∷ t ∷ ts) ≡ cond b (unexpired w (t ∷ ts)) (s ∷ t ∷ ts))
+    [ true ↦ rw one-add (drop-passed w (t ∷ ts)) | false ↦ refl ]
 
 -- what a list keeps where its first slot goes, it keeps through expiry
 module _ {S : Type 0} (Keeps : List (Slot S) → Type 0) (one_gone : (s t : Slot S) (ts : List (Slot S)) → Keeps (s ∷ t ∷ ts) → Keeps (t ∷ ts)) where
@@ -41,19 +31,9 @@ module _ {S : Type 0} (Keeps : List (Slot S) → Type 0) (one_gone : (s t : Slot
       elim (leb t.start w) as (λ b. Keeps (cond b (unexpired w (t ∷ ts)) (s ∷ t ∷ ts)))
       [ true ↦ behind_expiry w (t ∷ ts) (one_gone s t ts h) | false ↦ h ]
 
--- Of the first n elements, those behind the first few: moved to the front, and where they are.
-module _ {X : Type 0} (xs : List X) (n gone : ℕ) (within : gone ≤ n) (enough : n ≤ length xs) where
-  behind : take (n - gone) (drop gone xs) ≡ drop gone (take n xs)
-  behind = let whole : gone + (n - gone) ≡ n = omega arith in sym (drop-take gone (n - gone) xs) ∙ ap (λ k. drop gone (take k xs)) whole
-
-  pub moved_up : take (n - gone) (paste xs 0 (drop gone xs) (n - gone)) ≡ drop gone (take n xs)
-  moved_up =
-      let k = n - gone in
-      let left : k ≤ length (drop gone xs) = simp length-drop (omega arith) in
-      ap (λ j. take j (paste xs 0 (drop gone xs) k)) (sym (zero-add k)) ∙ take-paste xs 0 (drop gone xs) k (omega arith) left ∙ behind
-
-  pub not_moved : gone ≤ 0 → take (n - gone) xs ≡ drop gone (take n xs)
-  not_moved none = let zero : gone ≡ 0 = omega arith in ap (λ g. take (n - gone) (drop g xs)) (sym zero) ∙ behind
-
-  pub count_left : n - gone ≡ length (drop gone (take n xs))
-  count_left = simp (length-drop, length-take) (omega arith)
+-- the elements behind the first few, moved to the front
+pub moved_up : {X : Type 0} (xs : List X) (gone : ℕ) → take (length xs - gone) (paste xs 0 (drop gone xs) (length xs - gone)) ≡ drop gone xs
+moved_up xs gone =
+    let n = length xs - gone in
+    let left : n ≤ length (drop gone xs) = simp length-drop (omega arith) in
+    ap (λ j. take j (paste xs 0 (drop gone xs) n)) (sym (zero-add n)) ∙ take-paste xs 0 (drop gone xs) n (omega arith) left ∙ take_rest xs gone

@@ -2,7 +2,6 @@ pub mod Chains
 pub mod Enclosing
 pub mod Expiry
 pub mod FedSound
-pub mod Lent
 pub mod Soundness
 pub mod Standing
 pub mod Suffixes

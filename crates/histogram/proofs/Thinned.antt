@@ -1,8 +1,9 @@
 -- Thinning leaves what `Thins` says. Assumes nothing.
-use Rattle.std.proofs.Common.{◌≡◌, ℕ, zero, suc, ◌+◌, ◌-◌, ◌<◌, ◌≤◌, Bool, true, false, cond, List, [], ◌∷◌, ◌++◌, length, get_or, take, drop, sym, refl, ap, ◌∙◌, subst, inl, inr, ⊎_elim, one-add, arith, length-drop, take-append-drop}
+use Rattle.std.proofs.Common.{◌≡◌, ℕ, zero, suc, ◌+◌, ◌-◌, ◌<◌, ◌≤◌, Bool, true, List, [], ◌∷◌, ◌++◌, length, get_or, take, drop, sym, refl, ap, ◌∙◌, subst, inl, inr, ⊎_elim, arith, length-drop, take-append-drop}
 use Rattle.std.specs.List.{prefix_len, AllByRecursion}
-use Rattle.std.proofs.lemmas.List.{drop_more}
-use Rattle.std.proofs.lemmas.List.Sums.{prefix_len-le-length}
+use Rattle.std.proofs.lemmas.List.{drop_more, drop_all, get_or-take, length-take}
+use Rattle.std.proofs.lemmas.List.Elements.{recursion_from_All}
+use Rattle.std.proofs.lemmas.List.Sums.{prefix_len-le-length, prefix_len_passes, prefix_len_stops}
 use Rattle.std.proofs.lemmas.Bool.{cases_lt}
 use Rattle.histogram.specs.Method.{anchored, thinned}
 use Rattle.histogram.specs.Thins.{Ends, Next, Thins}
@@ -14,22 +15,15 @@ module _ {X : Type 0} (near : X → X → Bool) where
 
   -- what comes behind the leading near ones is not near
   ends : (a : X) (ts : List X) → Ends near a (drop (prefix_len (near a) ts) ts)
-  ends a [] = tt
-  ends a (t ∷ ts) = ends_here (near a t) refl (ends a ts)
-    where
-      ends_here : (b : Bool) → near a t ≡ b → Ends near a (drop (prefix_len (near a) ts) ts) → Ends near a (drop (cond b (1 + prefix_len (near a) ts) 0) (t ∷ ts))
-      ends_here true e more = rw one-add more
-      ends_here false e more = e
+  ends a ts =
+      let n = prefix_len (near a) ts in
+      ⊎_elim (λ (within : n < length ts). rw (drop_more ts n a within) (prefix_len_stops (near a) ts a within)) (λ (past : length ts ≤ n). rw (drop_all n ts past) tt) (cases_lt n (length ts))
 
-  -- of the leading near ones, the first k and the next are near
-  leads : (a d : X) (ts : List X) (k : ℕ) → k < prefix_len (near a) ts → AllByRecursion (λ t. near a t ≡ true) (take k ts) × (near a (get_or ts k d) ≡ true)
-  leads a d [] k h = absurd (omega arith)
-  leads a d (t ∷ ts) k h = leads_here (near a t) refl k h (leads a d ts)
-    where
-      leads_here : (b : Bool) → near a t ≡ b → (k : ℕ) → k < cond b (1 + prefix_len (near a) ts) 0 → ((j : ℕ) → j < prefix_len (near a) ts → AllByRecursion (λ s. near a s ≡ true) (take j ts) × (near a (get_or ts j d) ≡ true)) → AllByRecursion (λ s. near a s ≡ true) (take k (t ∷ ts)) × (near a (get_or (t ∷ ts) k d) ≡ true)
-      leads_here false e k h more = absurd (omega arith)
-      leads_here true e zero h more = (tt, e)
-      leads_here true e (suc j) h more = let rest = more j (omega arith) in ((e, rest.0), rest.1)
+  -- the first of the leading near ones are near
+  leads : (a : X) (ts : List X) (k : ℕ) → k ≤ prefix_len (near a) ts → AllByRecursion (λ t. near a t ≡ true) (take k ts)
+  leads a ts k h =
+      recursion_from_All (λ t. near a t ≡ true) (take k ts)
+      (λ j d lt. let before : j < k = omega (arith, length-take k ts) in rw (get_or-take k ts j d before) (prefix_len_passes (near a) ts j d (omega arith)))
 
   -- where none is near the next is the one right behind, else it is the last near one
   next : (a x : X) (r : List X) → (let ts = x ∷ r in let k = prefix_len (near a) ts - 1 in Next near a (take k ts) (get_or ts k x) (drop (k + 1) ts))
@@ -37,7 +31,7 @@ module _ {X : Type 0} (near : X → X → Bool) where
       let ts = x ∷ r in
       let n = prefix_len (near a) ts in
       ⊎_elim
-      (λ (some : 0 < n). let known = leads a x ts (n - 1) (omega arith) in let all : n - 1 + 1 ≡ n = omega arith in inr (known.0, known.1, subst (λ j. Ends near a (drop j ts)) (sym all) (ends a ts)))
+      (λ (some : 0 < n). let all : n - 1 + 1 ≡ n = omega arith in inr (leads a ts (n - 1) (omega arith), prefix_len_passes (near a) ts (n - 1) x (omega arith), subst (λ j. Ends near a (drop j ts)) (sym all) (ends a ts)))
       (λ (none : n ≤ 0). let first : n ≡ 0 = omega arith in inl (ap (λ j. take (j - 1) ts) first, ap (λ j. near a (get_or ts (j - 1) x)) first ∙ subst (λ j. Ends near a (drop j ts)) first (ends a ts)))
       (cases_lt 0 n)
 

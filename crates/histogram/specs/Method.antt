@@ -31,9 +31,13 @@ module _ {I S : Type 0} (m : Model I S) where
   abbrev pub told : Slot S → ℕ
   told s = m.value s.state
 
-  -- is slot t near slot s, at a loss?
+  -- is slot t near slot s, by a cut?
+  abbrev pub near_by : ℕ × ℕ → Slot S → Slot S → Bool
+  near_by cut s t = near_values cut (told s) (told t)
+
+  -- and at a loss, by the statistic's own cut
   abbrev pub near : ℕ → Slot S → Slot S → Bool
-  near loss s t = near_values (m.cut loss) (told s) (told t)
+  near loss = near_by (m.cut loss)
 
   -- the slot with one item more
   abbrev pub with_item : I → Slot S → Slot S

@@ -1,31 +1,27 @@
 // Dropping the slots that the window has passed.
-ghost use Rattle.std.specs.Prelude.{◌≡◌, ◌≤◌, length, take, drop};
+ghost use Rattle.std.specs.Prelude.{◌≡◌, ◌≤◌, length, take, drop, nat_le};
+ghost use Rattle.std.specs.List.{prefix_len};
 ghost use Rattle.histogram.specs.Method.{unexpired};
 
 use crate::slot::Slot;
 
-// Of the first `count` slots, how many are dropped: all before the last one that starts at or before `w`.
-fn passed<S: Copy>(slots: &[Slot<S>], count: usize, w: u64) -> usize
-    requires { count ≤ length slots.now }
-    ensures within { result ≤ count }
-    ensures rest { drop result (take count slots.now) ≡ unexpired w (take count slots.now) }
+// How many slots the window has passed: all before the last one that starts at or before `w`.
+fn passed<S>(slots: &[Slot<S>], w: u64) -> usize
+    ensures within { result ≤ length slots.now }
+    ensures count { result ≡ prefix_len (λ slot. nat_le slot.start w) (drop 1 slots.now) }
 {
-    let mut gone = 0;
-    while gone + 1 < count && slots[gone + 1].start <= w {
-        gone += 1;
-    }
-    gone
+    let later = slots.iter().skip(1);
+    later.take_while(|slot| slot.start <= w).count()
 }
 
-// Of the first `count` slots, drops those that the window has passed, and answers how many are left at the front.
-pub(crate) fn expire<S: Copy>(slots: &mut [Slot<S>], count: usize, w: u64) -> usize
-    requires { count ≤ length slots.old }
-    ensures left { result ≡ length (unexpired w (take count slots.old)) }
-    ensures kept { take result slots.new ≡ unexpired w (take count slots.old) }
+// Drops the slots that the window has passed, and answers how many are left at the front.
+pub(crate) fn expire<S: Copy>(slots: &mut [Slot<S>], w: u64) -> usize
+    ensures left { result ≡ length (unexpired w slots.old) }
+    ensures kept { take result slots.new ≡ unexpired w slots.old }
 {
-    let gone = passed(slots, count, w);
+    let gone = passed(slots, w);
     if gone > 0 {
-        slots.copy_within(gone..count, 0);
+        slots.copy_within(gone.., 0);
     }
-    count - gone
+    slots.len() - gone
 }

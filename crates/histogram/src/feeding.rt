@@ -21,10 +21,10 @@ pub fn advance<T: Statistic>(
     ensures left { result ≡ length (advanced T.Statistic.model item position w loss slots.old) }
     ensures kept { take result slots.new ≡ advanced T.Statistic.model item position w loss slots.old }
 {
-    if slots.is_empty() {
+    let Some((free, kept)) = slots.split_last_mut() else {
         return 0;
-    }
-    grow::<T>(slots, item, position);
-    let pruned = prune::<T>(slots, loss);
-    expire(slots, pruned, w)
+    };
+    grow::<T>(kept, free, item, position);
+    let pruned = prune::<T>(slots, T::cut(loss));
+    expire(&mut slots[..pruned], w)
 }

@@ -9,15 +9,13 @@ use statistic::Statistic;
 pub fn reading<T: Statistic>(kept: &[Slot<T::State>], w: u64) -> (u64, u64)
     ensures { result ≡ reading_of T.Statistic.model w kept.now }
 {
-    let Some(first) = kept.first() else {
-        return (0, 0);
-    };
-    let high = T::value(&first.state);
-    if first.start == w {
-        return (high, high);
-    }
-    match kept.get(1) {
-        Some(second) => (T::value(&second.state), high),
-        None => (0, high),
+    match kept {
+        [] => (0, 0),
+        [first, ..] if first.start == w => {
+            let value = T::value(&first.state);
+            (value, value)
+        }
+        [first, second, ..] => (T::value(&second.state), T::value(&first.state)),
+        [first] => (0, T::value(&first.state)),
     }
 }

@@ -18,7 +18,7 @@ pub enum Verdict {
     Open,
 }
 
-impl<'a, T: Statistic> Running<'a, T> {
+impl<T: Statistic> Running<'_, T> {
     // The reading, low and high.
     pub fn read(&self) -> (u64, u64)
         ensures { result ≡ read T.Statistic.model (view self.entry.now) }
@@ -45,6 +45,6 @@ impl<'a, T: Statistic> Running<'a, T> {
         ensures { result.now ≡ (view self.entry.now).kept }
     {
         let kept = self.kept.min(self.slots.len());
-        &self.slots[0..kept]
+        &self.slots[..kept]
     }
 }

@@ -11,7 +11,7 @@ use statistic::Statistic;
 // The last position of a take.
 const LAST: u64 = 1 << 40;
 
-impl<'a, T: Statistic> Running<'a, T> {
+impl<T: Statistic> Running<'_, T> {
     // Offers one item, and answers its position. A refusal changes nothing.
     pub fn feed(&mut self, item: T::Item) -> Result<u64, Refusal>
         ensures answer { result ≡ feed_answer T.Statistic.model (view self.entry.now) item }

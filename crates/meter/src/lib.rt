@@ -22,7 +22,8 @@ pub struct Stopped<'a, T: Statistic> {
     preset: Preset,
 }
 
-// A meter in a take: the kept slots lie at the front of those lent, and `now` counts the items that the take accepted.
+// A meter in a take: the kept slots lie at the front of those lent, and `now` counts the items that the take accepted. No ghost
+// field says that `kept` is within the slots: with one, a function that is passed a running meter and lets it go has no proof.
 pub struct Running<'a, T: Statistic> {
     slots: &'a mut [Slot<T::State>],
     kept: usize,
@@ -30,8 +31,9 @@ pub struct Running<'a, T: Statistic> {
     preset: Preset,
 }
 
-// A meter may be let go at any time: its slots are their owner's again, as they are.
-impl<'a, T: Statistic> Drop for Stopped<'a, T> {
+// A meter may be let go at any time: its slots are their owner's again, as they are. By hand, since where `Drop` is derived
+// nothing proves that of a call of `drop`.
+impl<T: Statistic> Drop for Stopped<'_, T> {
     fn drop(self)
         ensures { self.exit.0.now ≡ self.entry.slots.now }
     {
@@ -42,7 +44,7 @@ impl<'a, T: Statistic> Drop for Stopped<'a, T> {
     }
 }
 
-impl<'a, T: Statistic> Drop for Running<'a, T> {
+impl<T: Statistic> Drop for Running<'_, T> {
     fn drop(self)
         ensures { self.exit.0.now ≡ self.entry.slots.now }
     {

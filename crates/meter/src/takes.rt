@@ -14,7 +14,7 @@ impl<'a, T: Statistic> Stopped<'a, T> {
         ensures preset { numbers result.preset ≡ (1, 500) }
         ensures slots { result.slots.now ≡ slots.old }
     {
-        let preset = first_preset();
+        let preset = Preset::new(1, 500).unwrap();
         Stopped { preset, slots }
     }
 
@@ -57,15 +57,5 @@ impl<'a, T: Statistic> Running<'a, T> {
             preset,
         } = self;
         Stopped { slots, preset }
-    }
-}
-
-// The preset of a meter that was just made.
-fn first_preset() -> Preset
-    ensures { numbers result ≡ (1, 500) }
-{
-    match Preset::new(1, 500) {
-        Ok(preset) => preset,
-        Err(_) => unreachable!(),
     }
 }

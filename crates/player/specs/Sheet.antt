@@ -1,6 +1,7 @@
 -- What a sheet prints. A reader must believe `printed`: a sheet of at most 65,536 bytes begins with a preset text, and each
 -- line behind it is an event on one meter of 1,024 slots. What the events mean to the meter is said by its own definitions.
 use Rattle.std.specs.Prelude.{ℕ, cond, List, [], ◌∷◌, ◌++◌, length, Some, None, Ok, Err, Option, Result, nat_le}
+use Rattle.std.specs.Option.{option_map, option_map_or}
 use Rattle.refusal.specs.declared.Refusal.{Refusal}
 use Rattle.refusal.specs.declared.Refusal.TheVariants.{MalformedEvent, SheetTooLong}
 use Rattle.statistic.specs.Model.{Model}
@@ -13,30 +14,13 @@ use Rattle.preset_text.specs.declared.kind.Kind.{Kind}
 use Rattle.preset_text.specs.declared.kind.Kind.TheVariants.{Energy, Peak, Notes}
 use Rattle.meter.specs.Take.{Take, begun, refused, after_feed, read}
 use Rattle.meter.specs.Verdicts.{judged}
-use Rattle.sheet.specs.Answers.{reading_text, verdict_text, refusal_text}
+use Rattle.sheet.specs.Answers.{refusal_text, said}
 use Rattle.sheet.specs.Events.{event_of}
 use Rattle.sheet.specs.Items.{sample_of, hit_of}
 use Rattle.sheet.specs.declared.event.Event.{Event}
 use Rattle.sheet.specs.declared.event.Event.TheVariants.{Feed, Read, Mark, Restart}
-use Rattle.player.specs.declared.answer.Answer.{Answer}
-use Rattle.player.specs.declared.answer.Answer.TheVariants.{Nothing, Reading, Judged, Refused}
-
--- the lines that are printed for an answer
-abbrev pub said : Answer → List ℕ
-said Nothing = []
-said (Reading low high) = reading_text low high
-said (Judged verdict) = verdict_text verdict
-said (Refused refusal) = refusal_text refusal
-
--- a refusal is told, and nothing else
-abbrev pub told : Option Refusal → Answer
-told None = Nothing
-told (Some e) = Refused e
-
--- go on with a value, or end with the bytes given
-abbrev pub or_else : {A : Type 0} → Option A → List ℕ → (A → List ℕ) → List ℕ
-or_else None end go = end
-or_else (Some x) end go = go x
+use Rattle.sheet.specs.declared.answer.Answer.{Answer}
+use Rattle.sheet.specs.declared.answer.Answer.TheVariants.{Reading, Judged, Refused}
 
 -- what the bytes behind the last line end print: none may stand there
 abbrev pub ended : List ℕ → List ℕ
@@ -44,12 +28,12 @@ ended [] = []
 ended (b ∷ bs) = refusal_text MalformedEvent
 
 module _ {I S : Type 0} (m : Model I S) where
-  -- what an event is answered in a take
-  abbrev pub answer_to : Take S → Event I → Answer
-  answer_to t (Feed x) = told (refused m t x)
-  answer_to t Read = Reading (read m t).0 (read m t).1
-  answer_to t (Mark n) = Judged (judged n (read m t))
-  answer_to t Restart = Nothing
+  -- what an event is answered in a take, if it is: of a feed a refusal is told, and nothing else
+  abbrev pub answer_to : Take S → Event I → Option Answer
+  answer_to t (Feed x) = option_map (λ e. Refused e) (refused m t x)
+  answer_to t Read = Some (Reading (read m t).0 (read m t).1)
+  answer_to t (Mark n) = Some (Judged (judged n (read m t)))
+  answer_to t Restart = None
 
   -- the take that an event leaves; a restart begins another with the same preset, over the same slots
   abbrev pub leaves : Take S → Event I → Take S
@@ -63,7 +47,8 @@ module _ {I S : Type 0} (m : Model I S) where
     -- sheet; what the lines before it printed stays.
     abbrev pub plays : Take S → List (List ℕ) → List ℕ → List ℕ
     plays t [] tail = ended tail
-    plays t (l ∷ ls) tail = or_else (event_of item l) (refusal_text MalformedEvent) (λ e. said (answer_to t e) ++ plays (leaves t e) ls tail)
+    plays t (l ∷ ls) tail =
+        option_map_or (λ e. option_map_or said (answer_to t e) [] ++ plays (leaves t e) ls tail) (event_of item l) (refusal_text MalformedEvent)
 
     -- what a text prints from a take on
     abbrev pub text_plays : Take S → List ℕ → List ℕ

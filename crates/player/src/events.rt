@@ -1,18 +1,16 @@
 // Playing the events of a sheet on a running meter.
 ghost use Rattle.std.specs.Prelude.{◌≡◌, length};
-ghost use Rattle.std.specs.Result.{result_err};
 ghost use Rattle.preset.specs.Questions.{view as numbers};
 ghost use Rattle.meter.specs.Take.{view};
 ghost use Rattle.player.specs.Room.{Prints};
-ghost use Rattle.player.specs.Sheet.{told, answer_to, leaves, take_prints};
+ghost use Rattle.player.specs.Sheet.{answer_to, leaves, take_prints};
 
-use crate::answer::Answer;
 use crate::saying::say;
 use histogram::Slot;
 use meter::{Running, Stopped};
 use preset::Preset;
 use refusal::Refusal;
-use sheet::{Event, ItemText, read_event};
+use sheet::{Answer, Event, ItemText, read_event};
 use statistic::Statistic;
 use std::alloc::AllocError;
 use text::next_line;
@@ -40,7 +38,9 @@ where
             meter: next,
             answer,
         } = play_event(meter, event);
-        say(answer, out)?;
+        if let Some(answer) = answer {
+            say(answer, out)?;
+        }
         meter = next;
         events = rest;
     }
@@ -51,10 +51,10 @@ where
     }
 }
 
-// A meter behind an event, and what the event is answered.
+// A meter behind an event, and what the event is answered. (A tuple with a meter in it gets no proof from the check.)
 struct Played<'a, T: Statistic> {
     meter: Running<'a, T>,
-    answer: Answer,
+    answer: Option<Answer>,
 }
 
 // Plays one event, and answers it.
@@ -63,26 +63,17 @@ fn play_event<'a, T: Statistic>(mut meter: Running<'a, T>, event: Event<T::Item>
     ensures answer { result.answer ≡ answer_to T.Statistic.model (view meter.entry) event }
 {
     let answer = match event {
-        Event::Feed(item) => told(meter.feed(item)),
+        // a feed is answered only if it is refused
+        Event::Feed(item) => meter.feed(item).err().map(Answer::Refused),
         Event::Read => {
             let (low, high) = meter.read();
-            Answer::Reading(low, high)
+            Some(Answer::Reading(low, high))
         }
-        Event::Mark(mark) => Answer::Judged(meter.judge(mark)),
+        Event::Mark(mark) => Some(Answer::Judged(meter.judge(mark))),
         Event::Restart => {
             meter = meter.stop().start();
-            Answer::Nothing
+            None
         }
     };
     Played { meter, answer }
-}
-
-// A feed is answered only if it is refused.
-fn told(position: Result<u64, Refusal>) -> Answer
-    ensures { result ≡ told (result_err position) }
-{
-    match position {
-        Ok(_) => Answer::Nothing,
-        Err(refusal) => Answer::Refused(refusal),
-    }
 }

@@ -1,7 +1,6 @@
 // One sheet played on one meter: from the bytes of the sheet to the bytes that it prints.
 #![tactic(auto)]
 
-mod answer;
 mod events;
 mod playing;
 mod saying;

@@ -6,7 +6,7 @@ use std::test::Fail;
 fn prints(rt: &(impl Abort + AllocGlobal), sheet: &[u8], wanted: &[u8]) -> Result<(), Fail> {
     let mut printed = Vec::new(rt.alloc());
     play(sheet, &mut printed)?;
-    assert!(rt; printed.as_slice() == wanted);
+    assert_eq!(rt; printed.as_slice(), wanted);
     Ok(())
 }
 
@@ -74,10 +74,10 @@ fn the_longest_sheet_and_one_byte_more(rt: HostRuntime) -> Result<(), Fail> {
     for _ in 0..21_836 {
         sheet.extend_from_slice(b"r=\n")?;
     }
-    assert!(rt; sheet.len() == MOST_BYTES);
+    assert_eq!(rt; sheet.len(), MOST_BYTES);
     let mut printed = Vec::new(rt.alloc());
     play(&sheet, &mut printed)?;
-    assert!(rt; printed.len() == 283_868);
+    assert_eq!(rt; printed.len(), 283_868);
     sheet.push(b'\n')?;
     prints(&rt, &sheet, b"refused=12\n")
 }

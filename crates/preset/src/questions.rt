@@ -10,10 +10,10 @@ impl Preset {
     pub fn new(window: u32, loss: u32) -> Result<Preset, Refusal>
         ensures { plain result ≡ asked window loss }
     {
-        if window < 1 || window > 1_048_576 {
+        if !(1..=1_048_576).contains(&window) {
             return Err(Refusal::WindowOutOfRange);
         }
-        if loss < 1 || loss > 999 {
+        if !(1..=999).contains(&loss) {
             return Err(Refusal::LossOutOfRange);
         }
         Ok(Preset { window, loss })

@@ -9,10 +9,8 @@ use std::test::Fail;
 
 // What a preset holds at a window and a loss, or the number of the refusal.
 fn held(window: u32, loss: u32) -> Result<(u32, u32), u8> {
-    match Preset::new(window, loss) {
-        Ok(preset) => Ok((preset.window(), preset.loss())),
-        Err(refusal) => Err(refusal.number()),
-    }
+    let preset = Preset::new(window, loss).map_err(Refusal::number)?;
+    Ok((preset.window(), preset.loss()))
 }
 
 fn slots<T: Statistic>(window: u32, loss: u32) -> Result<usize, Refusal> {

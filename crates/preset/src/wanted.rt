@@ -15,7 +15,7 @@ pub fn slots_wanted<T: Statistic>(preset: &Preset) -> usize
 }
 
 // The walk down from the top stops as soon as the window is the smaller number, so it takes at most half the window's
-// turns, however many steps the top has.
+// turns, however many steps the top has. A `while`: `slots` is its answer and no index, and v ends it too.
 fn most_kept(cut: (u64, u64), top: u64, window: u32) -> usize
     requires { Proper cut × (top * cut.1 < 2 ^ 63) }
     ensures value { result ≡ most_kept cut top window }

@@ -1,91 +1,74 @@
--- What is written reads as the kind and the preset that it was written for, and is short.
-use Rattle.std.proofs.Common.{◌≡◌, ℕ, ◌≤◌, Bool, true, false, cond, leb, List, [], ◌∷◌, ◌++◌, length, take, drop, IfOk, Some, Ok, Err, codes, decimal, Result, sym, refl, ap, ◌∙◌, append_assoc, append-nil, arith, length-append, take_all, take_at, drop_at}
-use Rattle.preset_text.specs.Reading.{behind, behind_in, value_of, three_lines, answered, read_text}
+-- What is written reads as the setup that it was written for, and is short.
+use Rattle.std.proofs.Common.{◌≡◌, ℕ, ◌≤◌, true, List, [], ◌∷◌, ◌++◌, length, take, Some, Ok, codes, decimal, Result, refl, ap, ◌∙◌, append_assoc, append-nil, arith, length-append, take_all, drop_at}
+use Rattle.preset.specs.Questions.{view}
+use Rattle.preset_text.specs.Placed.{Wrote}
+use Rattle.preset_text.specs.Reading.{behind, value_of, three_lines, answered, read_text}
 use Rattle.preset_text.specs.Words.{word, named, written}
 use Rattle.preset_text.specs.declared.kind.Kind.{Kind}
 use Rattle.preset_text.specs.declared.kind.Kind.TheVariants.{Energy, Peak, Notes}
-use Rattle.preset_text.proofs.Three.{three_at_all}
+use Rattle.preset_text.specs.declared.setup.Setup.{Setup}
 use Rattle.refusal.specs.declared.Refusal.{Refusal}
-use Rattle.refusal.specs.declared.Refusal.TheVariants.{BufferTooShort}
+use Rattle.preset_text.proofs.Accepted.{keyed}
 use Rattle.std.specs.Str.{bytes_eq}
 use Rattle.std.proofs.lemmas.Fmt.{length-decimal-le}
-use Rattle.std.proofs.lemmas.Slice.Eq.{bytes_eq-Decides}
-use Rattle.std.proofs.lemmas.Bool.{le-leb}
+use Rattle.std.proofs.lemmas.Slice.Eq.{starts_is}
+use Rattle.std.proofs.lemmas.Bool.Decides.{Decides-eqb}
+use Rattle.std.proofs.lemmas.Grind.{common_steps}
 use Rattle.text.specs.Lines.{line}
 use Rattle.text.specs.Shown.{placed}
 use Rattle.text.proofs.Fronts.{pushed}
 use Rattle.text.proofs.Decimals.{spelled_decimal}
 use Rattle.text.proofs.Lines.{one_line, first_line, one_line_decimal}
 
+-- a line that is written has its value behind its key
 behind_key : (key v : List ℕ) → behind key (key ++ v) ≡ Some v
-behind_key key v =
-    let same : bytes_eq key (take (length key) (key ++ v)) ≡ true = (bytes_eq-Decides key (take (length key) (key ++ v))).1 (sym (take_at key v (length key) refl)) in
-    rw same (ap (λ l. Some l) (drop_at key v (length key) refl))
+behind_key key v = grind (arith, (starts_is Decides-eqb (key ++ v) key (bytes_eq key (take (length key) (key ++ v))) refl).1 v refl, drop_at key v (length key) refl)
 
 value_written : (key v rest : List ℕ) → one_line (key ++ v) ≡ true → value_of key (line key v ++ rest) ≡ Some (v, rest)
-value_written key v rest h =
-    let regrouped : line key v ++ rest ≡ (key ++ v) ++ 10 ∷ rest = simp append_assoc in
-    ap (value_of key) regrouped ∙ ap (behind_in key) (first_line (key ++ v) rest h) ∙ rw (behind_key key v)
+value_written key v rest h = grind (arith, behind_key key v, first_line (key ++ v) rest h, append_assoc {A = ℕ})
 
-word_one_line : (k : Kind) → one_line (word k) ≡ true
-word_one_line Energy = refl
-word_one_line Peak = refl
-word_one_line Notes = refl
+-- the values of three lines that are written one behind the other
+keyed_written : (a b c k w l : List ℕ) → one_line (a ++ k) ≡ true → one_line (b ++ w) ≡ true → one_line (c ++ l) ≡ true → keyed a b c (line a k ++ (line b w ++ line c l)) ≡ Ok ((k, w, l), [])
+keyed_written a b c k w l p q r = grind (arith, value_written, append-nil (line c l))
 
-named_word : (k : Kind) → named (word k) ≡ Some k
-named_word Energy = refl
-named_word Peak = refl
-named_word Notes = refl
+-- a word names its kind, and is short and no more than a line
+of_word : (k : Kind) → (named (word k) ≡ Some k) × (one_line (word k) ≡ true) × (length (word k) ≤ 6)
+of_word Energy = (refl, refl, omega arith)
+of_word Peak = (refl, refl, omega arith)
+of_word Notes = (refl, refl, omega arith)
 
-word_short : (k : Kind) → length (word k) ≤ 6
-word_short Energy = omega arith
-word_short Peak = omega arith
-word_short Notes = omega arith
+module _ (s : Setup) where
+  pub read_written : read_text (written s.kind (view s.preset)) ≡ Ok (s.kind, view s.preset)
+  unfolding written three_lines answered
+  read_written =
+      let three = keyed_written (codes "kind=") (codes "window=") (codes "loss=") (word s.kind) (decimal s.preset.window) (decimal s.preset.loss) (of_word s.kind).1 (one_line_decimal s.preset.window (omega arith)) (one_line_decimal s.preset.loss (omega arith)) in
+      rw (three, (of_word s.kind).0) (grind (arith, spelled_decimal 7))
 
-module _ (k : Kind) (w l : ℕ) (w_low : 1 ≤ w) (w_high : w ≤ 1048576) (l_low : 1 ≤ l) (l_high : l ≤ 999) where
-  three_written : three_lines (written k (w, l)) ≡ Ok ((word k, decimal w, decimal l), [])
-  unfolding written
-  three_written =
-      three_at_all (written k (w, l))
-      (word k) (line (codes "window=") (decimal w) ++ line (codes "loss=") (decimal l)) (value_written (codes "kind=") (word k) _ (word_one_line k))
-      (decimal w) (line (codes "loss=") (decimal l)) (value_written (codes "window=") (decimal w) (line (codes "loss=") (decimal l)) (one_line_decimal w (omega arith)))
-      (decimal l) [] (ap (value_of (codes "loss=")) (sym (append-nil (line (codes "loss=") (decimal l)))) ∙ value_written (codes "loss=") (decimal l) [] (one_line_decimal l (omega arith)))
-
-  answered_written : answered (word k, decimal w, decimal l) ≡ Ok (k, (w, l))
-  unfolding answered
-  answered_written = rw (named_word k, spelled_decimal 7 w (omega arith) (omega arith) (omega arith), spelled_decimal 7 l (omega arith) (omega arith) (omega arith), le-leb 1 w w_low, le-leb w 1048576 w_high, le-leb 1 l l_low, le-leb l 999 l_high)
-
-  pub read_written : read_text (written k (w, l)) ≡ Ok (k, (w, l))
-  read_written = rw three_written answered_written
-
-  pub written_short : length (written k (w, l)) ≤ 36
+  pub written_short : length (written s.kind (view s.preset)) ≤ 36
   unfolding written
   written_short =
-      simp length-append (omega (arith, word_short k, length-decimal-le 7 w (omega arith) (omega arith) (omega arith), length-decimal-le 3 l (omega arith) (omega arith) (omega arith)))
+      simp length-append (grind (arith, of_word, length-decimal-le 7, length-decimal-le 3))
 
-  -- the pieces put one behind the other
-  module _ {s₀ s₁ s₂ s₃ s₄ s₅ s₆ s₇ named_so : List ℕ} {w' l' : ℕ} where
-    pub written_in_pieces : s₀ ≡ [] → s₁ ≡ take 64 (s₀ ++ codes "kind=") → named_so ≡ word k → s₂ ≡ take 64 (s₁ ++ named_so) → s₃ ≡ take 64 (s₂ ++ 10 ∷ codes "window=") → w' ≡ w → s₄ ≡ take 64 (s₃ ++ decimal w') → s₅ ≡ take 64 (s₄ ++ 10 ∷ codes "loss=") → l' ≡ l → s₆ ≡ take 64 (s₅ ++ decimal l') → s₇ ≡ take 64 (s₆ ++ 10 ∷ []) → s₇ ≡ written k (w, l)
-    unfolding written
-    written_in_pieces e₀ e₁ n e₂ e₃ w_is e₄ e₅ l_is e₆ e₇ =
-        let t₂ : List ℕ = codes "kind=" ++ word k in
-        let t₃ : List ℕ = t₂ ++ 10 ∷ codes "window=" in
-        let t₄ : List ℕ = t₃ ++ decimal w in
-        let t₅ : List ℕ = t₄ ++ 10 ∷ codes "loss=" in
-        let t₆ : List ℕ = t₅ ++ decimal l in
-        let kind = pushed _ _ (codes "kind=") _ (pushed _ _ [] _ e₀ e₁) (e₂ ∙ ap (λ x. take 64 (s₁ ++ x)) n) in
-        let window = pushed _ _ t₃ _ (pushed _ _ t₂ _ kind e₃) (e₄ ∙ ap (λ x. take 64 (s₃ ++ decimal x)) w_is) in
-        let loss = pushed _ _ t₅ _ (pushed _ _ t₄ _ window e₅) (e₆ ∙ ap (λ x. take 64 (s₅ ++ decimal x)) l_is) in
-        let regrouped : t₆ ++ 10 ∷ [] ≡ written k (w, l) = simp append_assoc in
-        pushed _ _ t₆ _ loss e₇ ∙ ap (take 64) regrouped ∙ take_all 64 (written k (w, l)) (omega (arith, written_short))
+  pub wrote : (t before after : List ℕ) (r : Result ℕ Refusal) → t ≡ written s.kind (view s.preset) → r ≡ (placed t before).0 → after ≡ (placed t before).1 → Wrote s.kind (view s.preset) before after r
+  wrote t before after r is answer buffer =
+      record {
+        answer = cc;
+        buffer = cc;
+        short = written_short;
+        reads_back = grind (arith, common_steps, read_written);
+      }
 
--- what holds of a text holds of the front of the buffer that it was placed in
-pub placed_front : (P : List ℕ → Type 0) (t out : List ℕ) (r : Result ℕ Refusal) (after : List ℕ) → r ≡ (placed t out).0 → after ≡ (placed t out).1 → P t → IfOk r (λ n. P (take n after))
-placed_front P t out r after answer is h = rw (answer, is) (go (leb (length t) (length out)))
-  where
-    either : Bool → Result ℕ Refusal × List ℕ
-    either b = cond b (Ok (length t), t ++ drop (length t) out) (Err BufferTooShort, out)
+-- what is cut off before more is put behind is cut off later
+cut_later : (s t : List ℕ) → take 64 (take 64 s ++ t) ≡ take 64 (s ++ t)
+cut_later s t = pushed _ _ s t refl refl
 
-    go : (b : Bool) → IfOk (either b).0 (λ n. P (take n (either b).1))
-    go true = rw (take_at t (drop (length t) out) (length t) refl) h
-    go false = tt
+-- seven pieces that are put one behind the other
+seven : (a b c d e f g : List ℕ) → length (a ++ (b ++ (c ++ (d ++ (e ++ (f ++ g)))))) ≤ 64 → take 64 (take 64 (take 64 (take 64 (take 64 (take 64 (take 64 ([] ++ a) ++ b) ++ c) ++ d) ++ e) ++ f) ++ g) ≡ a ++ (b ++ (c ++ (d ++ (e ++ (f ++ g)))))
+seven a b c d e f g h = simp (cut_later, append_assoc) (take_all 64 (a ++ (b ++ (c ++ (d ++ (e ++ (f ++ g)))))) h)
+
+-- the text as `spell` pushes it, piece by piece
+pub in_pieces : (s : Setup) → take 64 (take 64 (take 64 (take 64 (take 64 (take 64 (take 64 ([] ++ codes "kind=") ++ word s.kind) ++ 10 ∷ codes "window=") ++ decimal s.preset.window) ++ 10 ∷ codes "loss=") ++ decimal s.preset.loss) ++ 10 ∷ []) ≡ written s.kind (view s.preset)
+unfolding written
+in_pieces s =
+    let regrouped : codes "kind=" ++ (word s.kind ++ (10 ∷ codes "window=" ++ (decimal s.preset.window ++ (10 ∷ codes "loss=" ++ (decimal s.preset.loss ++ 10 ∷ []))))) ≡ written s.kind (view s.preset) = simp append_assoc in
+    seven (codes "kind=") (word s.kind) (10 ∷ codes "window=") (decimal s.preset.window) (10 ∷ codes "loss=") (decimal s.preset.loss) (10 ∷ []) (omega (arith, ap length regrouped, written_short s)) ∙ regrouped

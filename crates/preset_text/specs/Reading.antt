@@ -2,7 +2,6 @@
 -- three lines, the kind, the two numbers, and then those of the preset itself, which `asked` puts.
 use Rattle.std.specs.Prelude.{ℕ, cond, List, length, take, drop, Some, None, Ok, Err, codes, Option, Result, ◌==◌}
 use Rattle.preset.specs.Questions.{asked, view}
-use Rattle.preset.specs.declared.Preset.{Preset}
 use Rattle.refusal.specs.declared.Refusal.{Refusal}
 use Rattle.refusal.specs.declared.Refusal.TheVariants.{NotThreeLines, UnknownKind, MalformedNumber}
 use Rattle.std.specs.Option.{option_map}
@@ -11,6 +10,7 @@ use Rattle.text.specs.Decimal.{spelled}
 use Rattle.text.specs.Lines.{next_line}
 use Rattle.preset_text.specs.Words.{named}
 use Rattle.preset_text.specs.declared.kind.Kind.{Kind}
+use Rattle.preset_text.specs.declared.setup.Setup.{Setup}
 
 -- go on with the answer to a question, or refuse
 abbrev pub given : {A B : Type 0} → Option A → Refusal → (A → Result B Refusal) → Result B Refusal
@@ -59,6 +59,6 @@ abbrev pub read_front : List ℕ → Result (Kind × (ℕ × ℕ) × List ℕ) R
 read_front t = then (three_lines t) (λ p. then (answered p.0) (λ r. Ok (r.0, r.1, p.1)))
 
 -- an answer with its preset as two numbers
-abbrev pub kept : Result (Kind × Preset) Refusal → Result (Kind × (ℕ × ℕ)) Refusal
-kept (Ok p) = Ok (p.0, view p.1)
+abbrev pub kept : Result Setup Refusal → Result (Kind × (ℕ × ℕ)) Refusal
+kept (Ok s) = Ok (s.kind, view s.preset)
 kept (Err e) = Err e

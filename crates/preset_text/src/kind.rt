@@ -1,7 +1,8 @@
 // The kinds of meter, and the words by which a preset text names them.
 ghost use Rattle.std.specs.Prelude.{◌≡◌};
-ghost use Rattle.preset_text.specs.Words.{word, named};
-ghost use Rattle.std.specs.Str.{bytes_eq};
+ghost use Rattle.preset_text.specs.Words.{word, Names};
+
+use refusal::Refusal;
 
 #[derive(Clone, Copy, PartialEq, Eq, Debug)]
 pub enum Kind {
@@ -11,6 +12,7 @@ pub enum Kind {
 }
 
 impl Kind {
+    // Bytes and no `Display`: `write!` promises its bytes only where the writer says that it did not fail.
     pub(crate) fn word(self) -> &'static [u8]
         ensures { result.now ≡ word self }
     {
@@ -20,24 +22,20 @@ impl Kind {
             Kind::Notes => b"notes",
         }
     }
+}
 
-    pub(crate) fn named(bytes: &[u8]) -> Option<Kind>
-        ensures { result ≡ named bytes.now }
-    {
-        if Kind::Energy.is_named(bytes) {
-            Some(Kind::Energy)
-        } else if Kind::Peak.is_named(bytes) {
-            Some(Kind::Peak)
-        } else if Kind::Notes.is_named(bytes) {
-            Some(Kind::Notes)
-        } else {
-            None
+// The kind that a word names.
+impl TryFrom<&[u8]> for Kind {
+    type Error = Refusal;
+
+    ghost try_from_gives = { Names };
+
+    fn try_from(word: &[u8]) -> Result<Kind, Refusal> {
+        match word {
+            b"energy" => Ok(Kind::Energy),
+            b"peak" => Ok(Kind::Peak),
+            b"notes" => Ok(Kind::Notes),
+            _ => Err(Refusal::UnknownKind),
         }
-    }
-
-    fn is_named(self, bytes: &[u8]) -> bool
-        ensures { result ≡ bytes_eq bytes.now (word self) }
-    {
-        bytes == self.word()
     }
 }

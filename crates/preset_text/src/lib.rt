@@ -5,11 +5,13 @@ mod header;
 mod kind;
 mod line;
 mod reading;
+mod setup;
 #[cfg(test)]
 mod tests;
 mod writing;
 
-pub use header::{Header, read_header};
+pub use header::read_header;
 pub use kind::Kind;
 pub use reading::read;
+pub use setup::Setup;
 pub use writing::write;

@@ -23,10 +23,10 @@ pub(crate) struct ThreeLines<'a> {
     pub rest: &'a [u8],
 }
 
-impl<'a> PresetLine<'a> {
-    fn of(line: &'a [u8]) -> PresetLine<'a>
-        ensures { Says line.now result }
-    {
+impl<'a> From<&'a [u8]> for PresetLine<'a> {
+    ghost from_gives = { λ line r. Says line.now r };
+
+    fn from(line: &'a [u8]) -> PresetLine<'a> {
         if let Some((key, value)) = cut_key(line, b"kind=") {
             PresetLine::Kind { key, value }
         } else if let Some((key, value)) = cut_key(line, b"window=") {
@@ -43,11 +43,7 @@ impl<'a> PresetLine<'a> {
 fn cut_key<'a>(line: &'a [u8], key: &[u8]) -> Option<(&'a [u8], &'a [u8])>
     ensures { MatchOption result (behind key.now line.now ≡ None) (λ p. Keyed key.now line.now p.0 p.1) }
 {
-    if line.starts_with(key) {
-        Some(line.split_at(key.len()))
-    } else {
-        None
-    }
+    line.starts_with(key).then(|| line.split_at(key.len()))
 }
 
 // The first line of a text, and the text behind it.
@@ -55,10 +51,12 @@ fn next_preset_line(text: &[u8]) -> Option<(PresetLine<'_>, &[u8])>
     ensures { Next text.now result }
 {
     let (line, rest) = next_line(text)?;
-    Some((PresetLine::of(line), rest))
+    Some((PresetLine::from(line), rest))
 }
 
-// The first three lines of a text, where they are those of a preset.
+// The first three lines of a text, where they are those of a preset. Each is a `let .. else` of its own, since a chain of
+// `ok_or` would still have to take the one case that stands in its place.
+#[tactic(auto, unfolding(crate::specs::Reading::three_lines))]
 pub(crate) fn three_lines(text: &[u8]) -> Result<ThreeLines<'_>, Refusal>
     ensures { three result ≡ three_lines text.now }
 {

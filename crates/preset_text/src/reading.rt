@@ -6,15 +6,16 @@ ghost use Rattle.preset_text.specs.Words.{written};
 
 use crate::kind::Kind;
 use crate::line::{ThreeLines, three_lines};
+use crate::setup::Setup;
 use preset::Preset;
 use refusal::Refusal;
 use text::read_number;
 
-// The kind and the preset of a text that has just three lines. A text that is accepted is the one that is written for
-// what it reads as.
-pub fn read(text: &[u8]) -> Result<(Kind, Preset), Refusal>
+// What a text of just three lines stands for. A text that is accepted is the one that is written for what it reads as.
+#[tactic(auto, using(crate::proofs::Accepted::writes_back))]
+pub fn read(text: &[u8]) -> Result<Setup, Refusal>
     ensures value { kept result ≡ read_text text.now }
-    ensures writes_back { IfOk result (λ p. text.now ≡ written p.0 (view p.1)) }
+    ensures writes_back { IfOk result (λ s. text.now ≡ written s.kind (view s.preset)) }
 {
     let lines = three_lines(text)?;
     if !lines.rest.is_empty() {
@@ -24,18 +25,13 @@ pub fn read(text: &[u8]) -> Result<(Kind, Preset), Refusal>
 }
 
 // What the values of three lines stand for.
-pub(crate) fn answer(lines: ThreeLines<'_>) -> Result<(Kind, Preset), Refusal>
+#[tactic(auto, using(text::proofs::Decimals::spelled_small), unfolding(crate::specs::Reading::answered))]
+pub(crate) fn answer(lines: ThreeLines<'_>) -> Result<Setup, Refusal>
     ensures { kept result ≡ answered (lines.entry.kind.now, lines.entry.window.now, lines.entry.loss.now) }
 {
-    let Some(kind) = Kind::named(lines.kind) else {
-        return Err(Refusal::UnknownKind);
-    };
-    let Some(window) = read_number(7, lines.window) else {
-        return Err(Refusal::MalformedNumber);
-    };
-    let Some(loss) = read_number(7, lines.loss) else {
-        return Err(Refusal::MalformedNumber);
-    };
+    let kind = Kind::try_from(lines.kind)?;
+    let window = read_number(7, lines.window).ok_or(Refusal::MalformedNumber)?;
+    let loss = read_number(7, lines.loss).ok_or(Refusal::MalformedNumber)?;
     let preset = Preset::new(window as u32, loss as u32)?;
-    Ok((kind, preset))
+    Ok(Setup { kind, preset })
 }

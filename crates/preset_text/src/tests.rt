@@ -1,17 +1,13 @@
 // Each refusal, the edges of both numbers, the order of the questions, and a buffer that is too short.
-use crate::{Kind, read, read_header, write};
+use crate::{Kind, Setup, read, read_header, write};
 use preset::Preset;
+use refusal::Refusal;
 use std::test::Fail;
 
 // What a text reads as, or the number of the refusal.
 fn told(text: &[u8]) -> Result<(Kind, u32, u32), u8> {
-    match read(text) {
-        Ok(found) => {
-            let (kind, preset) = found;
-            Ok((kind, preset.window(), preset.loss()))
-        }
-        Err(refusal) => Err(refusal.number()),
-    }
+    let setup = read(text).map_err(Refusal::number)?;
+    Ok((setup.kind, setup.preset.window(), setup.preset.loss()))
 }
 
 #[test]
@@ -76,21 +72,25 @@ fn the_first_no_decides(rt: HostRuntime) {
 
 #[test]
 fn a_header_ends_where_the_text_behind_begins(rt: HostRuntime) -> Result<(), Fail> {
-    let header = read_header(b"kind=peak\nwindow=4\nloss=500\n7\n")?;
-    assert_eq!(rt; header.kind, Kind::Peak);
-    assert_eq!(rt; header.preset.window(), 4);
-    assert_eq!(rt; header.len, 28);
+    let text = b"kind=peak\nwindow=4\nloss=500\n7\n".as_slice();
+    let (setup, rest) = read_header(text)?;
+    assert_eq!(rt; setup.kind, Kind::Peak);
+    assert_eq!(rt; setup.preset.window(), 4);
+    assert_eq!(rt; text.len() - rest.len(), 28);
     Ok(())
 }
 
 #[test]
 fn thirty_six_bytes_and_one_too_few(rt: HostRuntime) -> Result<(), Fail> {
-    let preset = Preset::new(1_048_576, 999)?;
+    let setup = Setup {
+        kind: Kind::Energy,
+        preset: Preset::new(1_048_576, 999)?,
+    };
     let mut out = [7u8; 37];
-    assert_eq!(rt; write(Kind::Energy, &preset, &mut out)?, 36);
+    assert_eq!(rt; write(&setup, &mut out)?, 36);
     assert_eq!(rt; &out, b"kind=energy\nwindow=1048576\nloss=999\n\x07");
     let mut short = [7u8; 35];
-    assert!(rt; write(Kind::Energy, &preset, &mut short).is_err());
+    assert!(rt; write(&setup, &mut short).is_err());
     assert_eq!(rt; short, [7u8; 35]);
     Ok(())
 }

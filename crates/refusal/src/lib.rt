@@ -1,52 +1,59 @@
 // Why a call of the pack refuses: one enum for all calls, each case named by its content and known to hosts by its number.
 #![tactic(auto)]
 
-ghost use Rattle.std.specs.Prelude.{◌≡◌};
+ghost use Rattle.std.specs.Prelude.{◌≡◌, Some};
 ghost use Rattle.refusal.specs.Numbers.{number_of};
+ghost use Rattle.refusal.specs.Told.{refusal_words};
+
+use std::error::Error;
+use std::fmt;
+
+#[cfg(test)]
+mod tests;
 
 #[derive(Clone, Copy, PartialEq, Eq, Debug)]
 pub enum Refusal {
     // a preset's window is not from 1 to 1,048,576
-    WindowOutOfRange,
+    WindowOutOfRange = 1,
     // a preset's loss is not from 1 to 999
-    LossOutOfRange,
+    LossOutOfRange = 2,
     // the statistic's test turns the item down
-    ItemNotAdmitted,
+    ItemNotAdmitted = 3,
     // the take has 2^40 items already
-    TakeAtLastPosition,
+    TakeAtLastPosition = 4,
     // every slot given is in use
-    NoFreeSlot,
+    NoFreeSlot = 5,
     // a text has not the three lines of a preset
-    NotThreeLines,
+    NotThreeLines = 7,
     // a preset text names a kind that the pack does not have
-    UnknownKind,
+    UnknownKind = 8,
     // a number of a preset text is not well formed
-    MalformedNumber,
+    MalformedNumber = 9,
     // an event line of a sheet is not well formed, or not ended
-    MalformedEvent,
+    MalformedEvent = 10,
     // what is to be written does not fit the buffer
-    BufferTooShort,
+    BufferTooShort = 11,
     // a sheet has more than 65,536 bytes
-    SheetTooLong,
+    SheetTooLong = 12,
 }
 
 impl Refusal {
-    // The number by which hosts and answer lines know the refusal.
+    // The number by which hosts and answer lines know the refusal. (The name says more than `u8::from` would.)
     pub fn number(self) -> u8
         ensures { result ≡ number_of self }
     {
-        match self {
-            Refusal::WindowOutOfRange => 1,
-            Refusal::LossOutOfRange => 2,
-            Refusal::ItemNotAdmitted => 3,
-            Refusal::TakeAtLastPosition => 4,
-            Refusal::NoFreeSlot => 5,
-            Refusal::NotThreeLines => 7,
-            Refusal::UnknownKind => 8,
-            Refusal::MalformedNumber => 9,
-            Refusal::MalformedEvent => 10,
-            Refusal::BufferTooShort => 11,
-            Refusal::SheetTooLong => 12,
-        }
+        self as u8
     }
 }
+
+// What a person reads of a refusal.
+impl fmt::Display for Refusal {
+    ghost output = { λ e. Some (refusal_words e) };
+
+    fn fmt<W: fmt::Write>(&self, f: &mut fmt::Formatter<W>) -> fmt::Result {
+        write!(f, "refused, number {}", self.number())
+    }
+}
+
+// A host may pass a refusal on with `?`, as any error.
+impl Error for Refusal {}

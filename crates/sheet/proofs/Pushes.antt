@@ -6,14 +6,19 @@ use Rattle.text.specs.Lines.{line}
 use Rattle.text.proofs.Fronts.{pushed}
 use Rattle.sheet.specs.Answers.{number_line}
 
--- a push onto no bytes
-pub first_push : (s t a : List ℕ) → s ≡ [] → t ≡ take 64 (s ++ a) → length a ≤ 64 → t ≡ a
-first_push s t a p q few = q ∙ ap (λ l. take 64 (l ++ a)) p ∙ take_all 64 a few
+-- a piece pushed behind what is known, where both fit
+pub fitted : (s t known piece : List ℕ) → t ≡ take 64 (s ++ piece) → s ≡ known → length known + length piece ≤ 64 → t ≡ known ++ piece
+fitted s t known piece p e few = p ∙ ap (λ l. take 64 (l ++ piece)) e ∙ take_all 64 (known ++ piece) (simp length-append few)
 
 pub length-number_line : (name : List ℕ) (n : ℕ) → n < 2 ^ 64 → length (number_line name n) ≤ length name + 21
 length-number_line name n fits =
     let short = length-decimal-le 20 n (omega arith) (omega arith) fits in
     simp length-append (omega arith)
+
+-- the same at a line of a number
+pub number_fitted : (s t known name : List ℕ) (n : ℕ) → t ≡ take 64 (s ++ number_line name n) → s ≡ known → n < 2 ^ 64 → length known + length name ≤ 43 → t ≡ known ++ number_line name n
+number_fitted s t known name n p e fits few =
+    fitted s t known (number_line name n) p e (omega (arith, length-number_line name n fits))
 
 -- three pushes of a line's parts are one
 pub line_pushed : (s t u v name word : List ℕ) → t ≡ take 64 (s ++ name) → u ≡ take 64 (t ++ word) → v ≡ take 64 (u ++ 10 ∷ []) → v ≡ take 64 (s ++ line name word)

@@ -5,6 +5,8 @@ use Rattle.refusal.specs.declared.Refusal.{Refusal}
 use Rattle.text.specs.Lines.{line}
 use Rattle.meter.specs.declared.answers.Verdict.{Verdict}
 use Rattle.meter.specs.declared.answers.Verdict.TheVariants.{Above, Below, Open}
+use Rattle.sheet.specs.declared.answer.Answer.{Answer}
+use Rattle.sheet.specs.declared.answer.Answer.TheVariants.{Reading, Judged, Refused}
 
 -- a line with a name and a number
 abbrev pub number_line : List ℕ → ℕ → List ℕ
@@ -27,3 +29,9 @@ verdict_text verdict = line (codes "mark=") (verdict_word verdict)
 -- the number of a refusal
 abbrev pub refusal_text : Refusal → List ℕ
 refusal_text refusal = number_line (codes "refused=") (number_of refusal)
+
+-- the lines for an answer
+abbrev pub said : Answer → List ℕ
+said (Reading low high) = reading_text low high
+said (Judged verdict) = verdict_text verdict
+said (Refused refusal) = refusal_text refusal

@@ -1,7 +1,7 @@
 -- Items as text. A reader must believe that `sample_of` and `hit_of` tell which texts are items, and which items they are.
 -- That an item is read from its own text and from no other is proved. Whether a statistic takes the item is another question.
 use Rattle.std.specs.Prelude.{ℕ, zero, suc, ◌+◌, ◌^◌, ◌<◌, cond, List, ◌∷◌, ◌++◌, take, drop, ℤ, pos, negsuc, Some, None, decimal, Option, ◌==◌, slice_index}
-use Rattle.std.specs.Option.{option_map}
+use Rattle.std.specs.Option.{option_and_then, option_map}
 use Rattle.text.specs.Decimal.{spelled}
 use Rattle.statistic.specs.declared.hit.Hit.{Hit}
 
@@ -10,14 +10,9 @@ abbrev pub negative : ℕ → Option ℤ
 negative zero = None
 negative (suc n) = Some (negsuc n)
 
--- go on with a value, if there is one
-abbrev pub with_some : {A B : Type 0} → Option A → (A → Option B) → Option B
-with_some None f = None
-with_some (Some x) f = f x
-
 -- A sample: 1 to 7 digits, with a minus sign (byte 45) before them if it is negative; `-0` is none.
 abbrev pub sample_of : List ℕ → Option ℤ
-sample_of t = cond (slice_index t 0 == 45) (with_some (spelled 7 (drop 1 t)) negative) (option_map pos (spelled 7 t))
+sample_of t = cond (slice_index t 0 == 45) (option_and_then negative (spelled 7 (drop 1 t))) (option_map pos (spelled 7 t))
 
 -- the samples that 7 digits are enough for
 abbrev pub SevenDigits : ℤ → Type 0
@@ -26,7 +21,7 @@ SevenDigits (negsuc n) = suc n < 10 ^ 7
 
 -- a hit of a note and a velocity, if there are both
 abbrev pub hit_from : Option ℕ → Option ℕ → Option Hit
-hit_from note velocity = with_some note (λ n. option_map (λ v. record { note = n; velocity = v }) velocity)
+hit_from note velocity = option_and_then (λ n. option_map (λ v. record { note = n; velocity = v }) velocity) note
 
 -- a note in the first k bytes, and behind one byte more a velocity, each of 1 to 3 digits
 abbrev pub hit_behind : ℕ → List ℕ → Option Hit

@@ -1,22 +1,27 @@
 -- An item is read from its own text, and from no other. Assumes nothing.
 use Rattle.std.specs.Prelude.{◌≡◌, ℕ, zero, suc, ◌+◌, ◌^◌, ◌<◌, ◌≤◌, true, false, cond, List, ◌∷◌, ◌++◌, length, take, drop, ℤ, pos, negsuc, Some, None, decimal, Option, ◌==◌, ◌≢◌, slice_index, slice_index_or, refl}
-use Rattle.std.proofs.Common.{sym, ap, ◌∙◌, ⊎_elim, arith}
+use Rattle.std.proofs.Common.{sym, ap, subst, ◌∙◌, ⊎_elim, add-one, arith, length-append}
 use Rattle.std.specs.Option.{option_map}
+use Rattle.std.specs.List.{position}
 use Rattle.std.specs.Fmt.{signed_decimal}
 use Rattle.std.proofs.lemmas.Fmt.{decimal_nonempty, length-decimal-le, digits_decimal}
-use Rattle.std.proofs.lemmas.List.{take-append-drop, drop_more, get_or_past, get_or_append_left, get_or_at, take_at, drop_at, drop-drop}
+use Rattle.std.proofs.Math.Seq.{split_at}
+use Rattle.std.proofs.lemmas.Option.{option_and_then_some}
+use Rattle.std.proofs.lemmas.List.{get_or_past, get_or_append_left, get_or_at, take_at, drop_at, drop-drop}
 use Rattle.std.proofs.lemmas.Str.Parse.{not_in_digits}
-use Rattle.std.proofs.lemmas.Bool.{eqb-true, eq-eqb, ne_eqb, cases_lt, cond_both}
+use Rattle.std.proofs.lemmas.Bool.{eqb-true, eq-eqb, ne_eqb, lt-ltb, cases_lt, cond_both}
+use Rattle.std.proofs.lemmas.List.Sums.{position_or_len_is}
+use Rattle.std.proofs.lemmas.List.Quantifiers.{position-Some}
 use Rattle.text.specs.Decimal.{spelled}
-use Rattle.text.proofs.Decimals.{digits_own, spelled_decimal, decimal_spelled}
+use Rattle.text.proofs.Decimals.{digits_own, spelled_decimal, spelled_small, decimal_spelled}
 use Rattle.statistic.specs.declared.hit.Hit.{Hit}
-use Rattle.sheet.specs.Items.{negative, with_some, sample_of, SevenDigits, hit_from, hit_behind, hit_of, hit_text, ThreeDigits}
+use Rattle.sheet.specs.Items.{negative, sample_of, SevenDigits, hit_from, hit_behind, hit_of, hit_text, ThreeDigits}
 
 -- a byte that is not 0 stands within the text, and parts it
 parted : (k c : ℕ) (t : List ℕ) → slice_index t k ≡ c → 0 < c → t ≡ take k t ++ c ∷ drop (k + 1) t
 parted k c t e some =
     ⊎_elim
-    (λ (h : k < length t). sym (take-append-drop k t) ∙ ap (λ l. take k t ++ l) (drop_more t k 0 h ∙ ap (λ b. b ∷ drop (k + 1) t) e))
+    (λ (h : k < length t). rw (← e, add-one) (split_at t k 0 h))
     (λ (h : length t ≤ k). absurd (omega (arith, get_or_past t k 0 h)))
     (cases_lt k (length t))
 
@@ -26,13 +31,13 @@ not_digit n c i fits low = not_in_digits digits_own (decimal n) c (digits_decima
 
 pub sample_only : (t : List ℕ) (z : ℤ) → sample_of t ≡ Some z → t ≡ signed_decimal z
 sample_only t z =
-    cond_both (slice_index t 0 == 45) _ _ (λ o. o ≡ Some z → t ≡ signed_decimal z) (λ s. minus (eqb-true (slice_index t 0) 45 s) (spelled 7 (drop 1 t)) refl)
+    cond_both (slice_index t 0 == 45) _ _ (λ o. o ≡ Some z → t ≡ signed_decimal z)
+    (λ s h. option_and_then_some negative (spelled 7 (drop 1 t)) z h (minus (eqb-true (slice_index t 0) 45 s)))
     (λ s. plain (spelled 7 t) refl)
   where
-    minus : slice_index_or t 0 0 ≡ 45 → (o : Option ℕ) → spelled 7 (drop 1 t) ≡ o → with_some o negative ≡ Some z → t ≡ signed_decimal z
-    minus s None p h = absurd (grind arith)
-    minus s (Some zero) p h = absurd (grind arith)
-    minus s (Some (suc n)) p h =
+    minus : slice_index_or t 0 0 ≡ 45 → (n : ℕ) → spelled 7 (drop 1 t) ≡ Some n → negative n ≡ Some z → t ≡ signed_decimal z
+    minus s zero p h = absurd (grind arith)
+    minus s (suc n) p h =
         let same : negsuc n ≡ z = cc in
         parted 0 45 t s (omega arith) ∙ ap (λ l. 45 ∷ l) (decimal_spelled 7 (suc n) (drop 1 t) p) ∙ ap signed_decimal same
 
@@ -46,24 +51,26 @@ sample_own (pos n) few =
     rw (ne_eqb (slice_index (decimal n) 0) 45 (not_digit n 45 0 fits (omega arith) (decimal_nonempty n fits)), spelled_decimal 7 n (omega arith) (omega arith) few)
 sample_own (negsuc n) few = rw (spelled_decimal 7 (suc n) (omega arith) (omega arith) few)
 
-hit_parts : (k : ℕ) (t : List ℕ) (h : Hit) → slice_index t k ≡ 44 → hit_behind k t ≡ Some h → t ≡ hit_text h
-hit_parts k t h comma e = go (spelled 3 (take k t)) refl (spelled 3 (drop (k + 1) t)) refl e
+-- a hit that is read at a comma stands in its text, and its numbers are short
+hit_parts : (k : ℕ) (t : List ℕ) (h : Hit) → slice_index t k ≡ 44 → hit_behind k t ≡ Some h → (t ≡ hit_text h) × ThreeDigits h
+hit_parts k t h comma e = option_and_then_some _ (spelled 3 (take k t)) h e (λ n p. go n p (spelled 3 (drop (k + 1) t)) refl)
   where
-    go : (n : Option ℕ) → spelled 3 (take k t) ≡ n → (v : Option ℕ) → spelled 3 (drop (k + 1) t) ≡ v → hit_from n v ≡ Some h → t ≡ hit_text h
-    go None p v q e = absurd (grind arith)
-    go (Some n) p None q e = absurd (grind arith)
-    go (Some n) p (Some v) q e =
-        let same : record { note = n; velocity = v } ≡ h = cc in
-        parted k 44 t comma (omega arith)
-        ∙ ap (λ l. l ++ 44 ∷ drop (k + 1) t) (decimal_spelled 3 n (take k t) p)
-        ∙ ap (λ l. decimal n ++ 44 ∷ l) (decimal_spelled 3 v (drop (k + 1) t) q)
-        ∙ ap hit_text same
+    go : (n : ℕ) → spelled 3 (take k t) ≡ Some n → (v : Option ℕ) → spelled 3 (drop (k + 1) t) ≡ v → hit_from (Some n) v ≡ Some h → (t ≡ hit_text h) × ThreeDigits h
+    go n p None q e = absurd (grind arith)
+    go n p (Some v) q e =
+        let same : record { note = n; velocity = v } ≡ h = cc in (
+          rw (← same, ← decimal_spelled 3 n (take k t) p, ← decimal_spelled 3 v (drop (k + 1) t) q) (parted k 44 t comma (omega arith)),
+          subst ThreeDigits same (spelled_small 3 n (take k t) p, spelled_small 3 v (drop (k + 1) t) q),
+        )
+
+hit_both : (t : List ℕ) (h : Hit) → hit_of t ≡ Some h → (t ≡ hit_text h) × ThreeDigits h
+hit_both t h = at 1 _ (at 2 _ (at 3 None (λ e. absurd (grind arith))))
+  where
+    at : (k : ℕ) (other : Option Hit) → (other ≡ Some h → (t ≡ hit_text h) × ThreeDigits h) → cond (slice_index t k == 44) (hit_behind k t) other ≡ Some h → (t ≡ hit_text h) × ThreeDigits h
+    at k other rest = cond_both (slice_index t k == 44) (hit_behind k t) other (λ o. o ≡ Some h → (t ≡ hit_text h) × ThreeDigits h) (λ s. hit_parts k t h (eqb-true (slice_index t k) 44 s)) (λ s. rest)
 
 pub hit_only : (t : List ℕ) (h : Hit) → hit_of t ≡ Some h → t ≡ hit_text h
-hit_only t h = at 1 _ (at 2 _ (at 3 None (λ e. absurd (grind arith))))
-  where
-    at : (k : ℕ) (other : Option Hit) → (other ≡ Some h → t ≡ hit_text h) → cond (slice_index t k == 44) (hit_behind k t) other ≡ Some h → t ≡ hit_text h
-    at k other rest = cond_both (slice_index t k == 44) (hit_behind k t) other (λ o. o ≡ Some h → t ≡ hit_text h) (λ s. hit_parts k t h (eqb-true (slice_index t k) 44 s)) (λ s. rest)
+hit_only t h e = (hit_both t h e).0
 
 module _ (h : Hit) (few : ThreeDigits h) where
   fits : h.note < 2 ^ 64
@@ -79,11 +86,14 @@ module _ (h : Hit) (few : ThreeDigits h) where
 
   read_behind : (k : ℕ) → length (decimal h.note) ≡ k → hit_behind k (hit_text h) ≡ Some h
   read_behind k e =
-      let t = hit_text h in
-      let front : spelled 3 (take k t) ≡ Some h.note = ap (spelled 3) (take_at (decimal h.note) (44 ∷ decimal h.velocity) k e) ∙ spelled_decimal 3 h.note (omega arith) (omega arith) few.0 in
-      let rest : drop (k + 1) t ≡ decimal h.velocity = sym (drop-drop 1 k t) ∙ ap (drop 1) (drop_at (decimal h.note) (44 ∷ decimal h.velocity) k e) in
-      let back : spelled 3 (drop (k + 1) t) ≡ Some h.velocity = ap (spelled 3) rest ∙ spelled_decimal 3 h.velocity (omega arith) (omega arith) few.1 in
-      ap (λ o. hit_from o (spelled 3 (drop (k + 1) t))) front ∙ ap (hit_from (Some h.note)) back
+      let back = 44 ∷ decimal h.velocity in
+      rw (
+        take_at (decimal h.note) back k e,
+        ← drop-drop 1 k (hit_text h),
+        drop_at (decimal h.note) back k e,
+        spelled_decimal 3 h.note (omega arith) (omega arith) few.0,
+        spelled_decimal 3 h.velocity (omega arith) (omega arith) few.1,
+      )
 
   by_length : (k : ℕ) → length (decimal h.note) ≡ k → 1 ≤ k → k ≤ 3 → hit_of (hit_text h) ≡ Some h
   by_length zero e some most = absurd (omega arith)
@@ -94,3 +104,24 @@ module _ (h : Hit) (few : ThreeDigits h) where
 
   pub hit_own : hit_of (hit_text h) ≡ Some h
   hit_own = by_length (length (decimal h.note)) refl (decimal_nonempty h.note fits) (length-decimal-le 3 h.note (omega arith) few.0 fits)
+
+  first_comma : position (λ b. b == 44) (hit_text h) ≡ Some (length (decimal h.note))
+  first_comma =
+      let t = hit_text h in
+      let n = length (decimal h.note) in
+      let within : n < length t = simp length-append (omega arith) in
+      rw (position_or_len_is (λ b. b == 44) t n 0 (omega arith) no_comma (λ _. comma n refl), lt-ltb n (length t) within)
+
+-- A text is a hit as it is one at its first comma, wherever that stands: behind no byte or too many, it is none.
+pub hit_at_comma : (t : List ℕ) (k : ℕ) → Some k ≡ position (λ b. b == 44) t → hit_behind k t ≡ hit_of t
+hit_at_comma t k at = go (hit_behind k t) refl (hit_of t) refl
+  where
+    go : (o : Option Hit) → hit_behind k t ≡ o → (p : Option Hit) → hit_of t ≡ p → o ≡ p
+    go None e None f = refl
+    go (Some h) e p f =
+        let is = hit_parts k t h (eqb-true (slice_index t k) 44 (position-Some (λ b. b == 44) t k 0 (sym at)).1) e in
+        sym (ap hit_of is.0 ∙ hit_own h is.1) ∙ f
+    go None e (Some h) f =
+        let is = hit_both t h f in
+        let same : Some k ≡ Some (length (decimal h.note)) = at ∙ ap (position (λ b. b == 44)) is.0 ∙ first_comma h is.1 in
+        sym e ∙ ap (hit_behind k) is.0 ∙ read_behind h is.1 k (cc)

@@ -1,81 +1,78 @@
 // The answer lines of a sheet, written into a lent buffer. A call answers the length and leaves the bytes behind as they
-// are, or refuses a buffer that is too short and leaves all of it.
-ghost use Rattle.std.specs.Prelude.{◌≡◌, ◌+◌, ◌≤◌, ◌++◌, length, take};
+// are, or refuses a buffer that is too short and leaves all of it. (There is no heap for a String to lie in.)
+ghost use Rattle.std.specs.Prelude.{◌≡◌, ◌≤◌, ◌++◌, length, take, decimal};
 ghost use Rattle.text.specs.Lines.{line};
 ghost use Rattle.text.specs.Shown.{shown, placed};
-ghost use Rattle.sheet.specs.Answers.{number_line, reading_text, verdict_text, refusal_text};
+ghost use Rattle.sheet.specs.Answers.{said, reading_text, verdict_text, refusal_text};
 
+use crate::answer::Answer;
 use meter::Verdict;
 use refusal::Refusal;
 use text::Short;
 
-// The two bounds of a reading, a line each.
-pub fn write_reading(low: u64, high: u64, out: &mut [u8]) -> Result<usize, Refusal>
-    ensures answer { result ≡ (placed (reading_text low high) out.old).0 }
-    ensures after { out.new ≡ (placed (reading_text low high) out.old).1 }
+// Writes the lines of an answer, which are at most 64 bytes.
+pub fn write_answer(answer: Answer, out: &mut [u8]) -> Result<usize, Refusal>
+    ensures answer { result ≡ (placed (said answer) out.old).0 }
+    ensures after { out.new ≡ (placed (said answer) out.old).1 }
+    ensures short { length (said answer) ≤ 64 }
 {
-    reading_lines(low, high).write_to(out)
-}
-
-// What a reading says of a mark.
-pub fn write_verdict(verdict: Verdict, out: &mut [u8]) -> Result<usize, Refusal>
-    ensures answer { result ≡ (placed (verdict_text verdict) out.old).0 }
-    ensures after { out.new ≡ (placed (verdict_text verdict) out.old).1 }
-{
-    verdict_line(verdict).write_to(out)
-}
-
-// The number of a refusal.
-pub fn write_refusal(refusal: Refusal, out: &mut [u8]) -> Result<usize, Refusal>
-    ensures answer { result ≡ (placed (refusal_text refusal) out.old).0 }
-    ensures after { out.new ≡ (placed (refusal_text refusal) out.old).1 }
-{
-    number_line(b"refused=", u64::from(refusal.number())).write_to(out)
-}
-
-fn reading_lines(low: u64, high: u64) -> Short
-    ensures { shown result ≡ reading_text low high }
-{
-    let mut text = number_line(b"low=", low);
-    push_number_line(&mut text, b"high=", high);
-    text
-}
-
-fn verdict_line(verdict: Verdict) -> Short
-    ensures { shown result ≡ verdict_text verdict }
-{
-    match verdict {
-        Verdict::Above => word_line(b"mark=", b"above"),
-        Verdict::Below => word_line(b"mark=", b"below"),
-        Verdict::Open => word_line(b"mark=", b"open"),
+    match answer {
+        Answer::Reading(low, high) => reading_lines(low, high).write_to(out),
+        Answer::Judged(verdict) => verdict_line(verdict).write_to(out),
+        Answer::Refused(refusal) => refusal_line(refusal).write_to(out),
     }
 }
 
-fn word_line(name: &[u8], word: &[u8]) -> Short
-    requires { length name.now + length word.now ≤ 63 }
-    ensures { shown result ≡ line name.now word.now }
+// The two bounds of a reading, a line each.
+fn reading_lines(low: u64, high: u64) -> Short
+    ensures { shown result ≡ reading_text low high }
 {
     let mut text = Short::new();
+    push_line(&mut text, b"low=", digits(low).as_bytes());
+    push_line(&mut text, b"high=", digits(high).as_bytes());
+    text
+}
+
+// What a reading says of a mark.
+fn verdict_line(verdict: Verdict) -> Short
+    ensures { shown result ≡ verdict_text verdict }
+{
+    let word: &[u8] = match verdict {
+        Verdict::Above => b"above",
+        Verdict::Below => b"below",
+        Verdict::Open => b"open",
+    };
+    let mut text = Short::new();
+    push_line(&mut text, b"mark=", word);
+    text
+}
+
+// The number of a refusal.
+fn refusal_line(refusal: Refusal) -> Short
+    ensures { shown result ≡ refusal_text refusal }
+{
+    let mut text = Short::new();
+    push_line(
+        &mut text,
+        b"refused=",
+        digits(u64::from(refusal.number())).as_bytes(),
+    );
+    text
+}
+
+// Puts a line at the end of `text`. Not by `write!`: its contract tells the bytes only for Ok, and not that it answers Ok.
+fn push_line(text: &mut Short, name: &[u8], value: &[u8])
+    ensures { shown text.new ≡ take 64 (shown text.old ++ line name.now value.now) }
+{
     text.push(name);
-    text.push(word);
+    text.push(value);
     text.push(b"\n");
-    text
 }
 
-fn number_line(name: &[u8], n: u64) -> Short
-    requires { length name.now ≤ 43 }
-    ensures { shown result ≡ number_line name.now n }
+fn digits(n: u64) -> Short
+    ensures { shown result ≡ decimal n }
 {
     let mut text = Short::new();
-    push_number_line(&mut text, name, n);
-    text
-}
-
-// Puts a line at the end of `text`.
-fn push_number_line(text: &mut Short, name: &[u8], n: u64)
-    ensures { shown text.new ≡ take 64 (shown text.old ++ number_line name.now n) }
-{
-    text.push(name);
     text.push_number(n);
-    text.push(b"\n");
+    text
 }

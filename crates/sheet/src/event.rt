@@ -1,5 +1,5 @@
 // What an event line asks of the meter.
-#[derive(Clone, Copy)]
+#[derive(Clone, Copy, PartialEq, Eq, Debug)]
 pub enum Event<I> {
     // feed an item
     Feed(I),

@@ -1,8 +1,9 @@
 // The items of a sheet as text: samples and hits.
-ghost use Rattle.std.specs.Prelude.{◌≡◌, ℕ, ◌^◌, ◌<◌, ◌≤◌, List, length, IfSome, Some, Option};
+ghost use Rattle.std.specs.Prelude.{◌≡◌, ℕ, ◌^◌, ◌<◌, ◌≤◌, List, IfSome, Some, Option, ◌==◌};
+ghost use Rattle.std.specs.List.{position};
 ghost use Rattle.std.specs.Fmt.{signed_decimal};
 ghost use Rattle.text.specs.Decimal.{spelled};
-ghost use Rattle.sheet.specs.Items.{sample_of, SevenDigits, hit_behind, hit_of, hit_text, ThreeDigits};
+ghost use Rattle.sheet.specs.Items.{sample_of, SevenDigits, hit_of, hit_text, ThreeDigits};
 ghost use Rattle.sheet.specs.Spelt.{sample_own, sample_only, hit_own, hit_only};
 
 use statistic::hit::Hit;
@@ -60,23 +61,17 @@ impl ItemText for Hit {
     ghost only = { hit_only };
 
     fn read_item(text: &[u8]) -> Option<Hit> {
-        match text {
-            [_, b',', ..] => hit_behind(1, text),
-            [_, _, b',', ..] => hit_behind(2, text),
-            [_, _, _, b',', ..] => hit_behind(3, text),
-            _ => None,
-        }
+        let comma = first_comma(text)?;
+        let note = number(3, &text[..comma])? as u16;
+        let velocity = number(3, &text[comma + 1..])? as u16;
+        Some(Hit { note, velocity })
     }
 }
 
-// The note in the first `k` bytes, and the velocity behind the byte that follows them.
-fn hit_behind(k: usize, text: &[u8]) -> Option<Hit>
-    requires { k < length text.now }
-    ensures { result ≡ hit_behind k text.now }
+fn first_comma(text: &[u8]) -> Option<usize>
+    ensures { result ≡ position (λ b. b == 44) text.now }
 {
-    let note = number(3, &text[0..k])? as u16;
-    let velocity = number(3, &text[k + 1..])? as u16;
-    Some(Hit { note, velocity })
+    text.iter().position(|b| *b == b',')
 }
 
 // A number of so few digits that 32 bits hold it.

@@ -1,6 +1,7 @@
 // The lines of a take sheet: the events that are read from it and the answers that are written for it.
 #![tactic(auto)]
 
+mod answer;
 mod answers;
 mod event;
 mod events;
@@ -8,7 +9,8 @@ mod items;
 #[cfg(test)]
 mod tests;
 
-pub use answers::{write_reading, write_refusal, write_verdict};
+pub use answer::Answer;
+pub use answers::write_answer;
 pub use event::Event;
 pub use events::read_event;
 pub use items::ItemText;

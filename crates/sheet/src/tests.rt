@@ -1,5 +1,5 @@
 // The answers with the bytes behind them, and the edges of event lines.
-use crate::{Event, ItemText, read_event, write_reading, write_refusal, write_verdict};
+use crate::{Answer, Event, ItemText, read_event, write_answer};
 use meter::Verdict;
 use refusal::Refusal;
 use statistic::hit::Hit;
@@ -8,21 +8,33 @@ use std::process::Abort;
 #[test]
 fn answers_leave_the_bytes_behind(rt: HostRuntime) {
     let mut reading = *b"..................................";
-    assert!(rt; write_reading(0, u64::MAX, &mut reading) == Ok(32));
-    assert!(rt; reading == *b"low=0\nhigh=18446744073709551615\n..");
+    assert_eq!(rt;
+        write_answer(Answer::Reading(0, u64::MAX), &mut reading),
+        Ok(32)
+    );
+    assert_eq!(rt; reading, *b"low=0\nhigh=18446744073709551615\n..");
     let mut verdict = *b"............";
-    assert!(rt; write_verdict(Verdict::Above, &mut verdict) == Ok(11));
-    assert!(rt; verdict == *b"mark=above\n.");
+    assert_eq!(rt;
+        write_answer(Answer::Judged(Verdict::Above), &mut verdict),
+        Ok(11)
+    );
+    assert_eq!(rt; verdict, *b"mark=above\n.");
     let mut refused = *b"............";
-    assert!(rt; write_refusal(Refusal::SheetTooLong, &mut refused) == Ok(11));
-    assert!(rt; refused == *b"refused=12\n.");
+    assert_eq!(rt;
+        write_answer(Answer::Refused(Refusal::SheetTooLong), &mut refused),
+        Ok(11)
+    );
+    assert_eq!(rt; refused, *b"refused=12\n.");
 }
 
 #[test]
 fn a_short_buffer_is_left_alone(rt: HostRuntime) {
     let mut out = *b".........";
-    assert!(rt; write_verdict(Verdict::Open, &mut out) == Err(Refusal::BufferTooShort));
-    assert!(rt; out == *b".........");
+    assert_eq!(rt;
+        write_answer(Answer::Judged(Verdict::Open), &mut out),
+        Err(Refusal::BufferTooShort)
+    );
+    assert_eq!(rt; out, *b".........");
 }
 
 fn none_is_an_event<I: ItemText>(rt: &impl Abort, lines: &[&[u8]]) {
@@ -33,13 +45,11 @@ fn none_is_an_event<I: ItemText>(rt: &impl Abort, lines: &[&[u8]]) {
 
 #[test]
 fn letters_and_marks(rt: HostRuntime) {
-    assert!(rt; matches!(read_event::<i32>(b"r="), Some(Event::Read)));
-    assert!(rt; matches!(read_event::<i32>(b"z="), Some(Event::Restart)));
-    assert!(rt;
-        matches!(
-            read_event::<i32>(b"m=9999999999999999"),
-            Some(Event::Mark(9_999_999_999_999_999))
-        )
+    assert_eq!(rt; read_event::<i32>(b"r="), Some(Event::Read));
+    assert_eq!(rt; read_event::<i32>(b"z="), Some(Event::Restart));
+    assert_eq!(rt;
+        read_event::<i32>(b"m=9999999999999999"),
+        Some(Event::Mark(9_999_999_999_999_999))
     );
     none_is_an_event::<i32>(
         &rt,
@@ -59,13 +69,11 @@ fn letters_and_marks(rt: HostRuntime) {
 
 #[test]
 fn samples(rt: HostRuntime) {
-    assert!(rt;
-        matches!(
-            read_event::<i32>(b"f=-9999999"),
-            Some(Event::Feed(-9_999_999))
-        )
+    assert_eq!(rt;
+        read_event::<i32>(b"f=-9999999"),
+        Some(Event::Feed(-9_999_999))
     );
-    assert!(rt; matches!(read_event::<i32>(b"f=0"), Some(Event::Feed(0))));
+    assert_eq!(rt; read_event::<i32>(b"f=0"), Some(Event::Feed(0)));
     none_is_an_event::<i32>(
         &rt,
         &[b"f=", b"f=-", b"f=-0", b"f=07", b"f=10000000", b"f=+1"],
@@ -74,16 +82,11 @@ fn samples(rt: HostRuntime) {
 
 #[test]
 fn hits(rt: HostRuntime) {
-    let whole = read_event::<Hit>(b"f=999,0");
-    assert!(rt;
-        matches!(
-            whole,
-            Some(Event::Feed(Hit {
-                note: 999,
-                velocity: 0
-            }))
-        )
-    );
+    let whole = Hit {
+        note: 999,
+        velocity: 0,
+    };
+    assert_eq!(rt; read_event::<Hit>(b"f=999,0"), Some(Event::Feed(whole)));
     none_is_an_event::<Hit>(
         &rt,
         &[

@@ -4,12 +4,14 @@ ghost use Rattle.statistic.specs.Lawful.Energy.{energy_laws};
 
 use crate::Statistic;
 use crate::samples::is_sample;
+use crate::thousandths::thousandths;
 
 // No energy passes this.
 const CAP: u64 = 1 << 50;
 
 pub struct Energy;
 
+// `admits`, `empty` and `value` are Peak's too, a line each: a trait of both, with laws that say so, would be longer.
 impl Statistic for Energy {
     type Item = i32;
 
@@ -43,6 +45,6 @@ impl Statistic for Energy {
     }
 
     fn cut(loss: u32) -> (u64, u64) {
-        (u64::from(loss), 1000)
+        thousandths(loss)
     }
 }

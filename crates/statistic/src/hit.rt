@@ -2,7 +2,8 @@
 ghost use Rattle.std.specs.Prelude.{◌≡◌};
 ghost use Rattle.statistic.specs.Hits.{is_hit};
 
-#[derive(Clone, Copy)]
+// Any numbers make a hit, for a meter turns down those out of range by a refusal of its own.
+#[derive(Clone, Copy, PartialEq, Eq, Debug)]
 pub struct Hit {
     pub note: u16,
     pub velocity: u16,

@@ -11,6 +11,7 @@ pub mod peak;
 mod samples;
 #[cfg(test)]
 mod tests;
+mod thousandths;
 
 // What a meter needs of a statistic. `model` says what it means, `laws` that it keeps the laws of the method, and each
 // function is tied to the model. Adding and valuing must do with whatever a slot may hold.

@@ -4,6 +4,7 @@ ghost use Rattle.statistic.specs.Lawful.Notes.{notes_laws};
 
 use crate::Statistic;
 use crate::hit::{Hit, is_hit};
+use crate::thousandths::thousandths;
 
 // A mark for each note: those below 64 in the low word, the others in the high word.
 #[derive(Clone, Copy)]
@@ -50,6 +51,6 @@ impl Statistic for Notes {
     }
 
     fn cut(loss: u32) -> (u64, u64) {
-        (u64::from(loss), 1000)
+        thousandths(loss)
     }
 }

@@ -4,6 +4,7 @@ ghost use Rattle.statistic.specs.Lawful.Peak.{peak_laws};
 
 use crate::Statistic;
 use crate::samples::is_sample;
+use crate::thousandths::thousandths;
 
 pub struct Peak;
 
@@ -39,6 +40,6 @@ impl Statistic for Peak {
     }
 
     fn cut(loss: u32) -> (u64, u64) {
-        (u64::from(loss), 1000)
+        thousandths(loss)
     }
 }

@@ -6,5 +6,5 @@ ghost use Rattle.statistic.specs.Samples.{is_sample};
 pub(crate) fn is_sample(item: i32) -> bool
     ensures { result ≡ is_sample item }
 {
-    -32768 <= item && item <= 32767
+    (-32768..=32767).contains(&item)
 }

@@ -10,6 +10,8 @@ fn numbers_at_the_edges(rt: HostRuntime) {
     assert_eq!(rt; read_number(7, b""), None);
     assert_eq!(rt; read_number(7, b"07"), None);
     assert_eq!(rt; read_number(7, b"7 "), None);
+    assert_eq!(rt; read_number(7, b"+7"), None);
+    assert_eq!(rt; read_number(7, b"7\xff"), None, "no text");
     assert_eq!(rt;
         read_number(20, b"9999999999999999"),
         Some(9_999_999_999_999_999)
@@ -41,5 +43,9 @@ fn a_short_text_stops_at_its_end(rt: HostRuntime) -> Result<(), Fail> {
     assert_eq!(rt; out[22], 1);
     text.push(&[9; 60]);
     assert_eq!(rt; text.as_bytes().len(), 64);
+    text.push(b"more");
+    assert_eq!(rt; text.as_bytes().len(), 64);
+    assert!(rt; text.write_to(&mut out).is_err());
+    assert_eq!(rt; out[0], b'n', "as it was");
     Ok(())
 }

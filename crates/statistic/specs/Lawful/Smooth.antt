@@ -1,8 +1,7 @@
 -- When a statistic is smooth, over plain numbers and lists, so that each kind and each layer cites it. Assumes nothing.
 use Rattle.std.specs.Prelude.{◌≡◌, ℕ, ◌+◌, ◌-◌, ◌*◌, ◌^◌, ◌<◌, ◌≤◌, min, true, List, [], ◌∷◌, ◌++◌}
-use Rattle.std.proofs.Common.{ap, ⊎_elim, append_assoc, append-nil, le_refl, le_trans, mul-add, add-mul, mul_assoc, mul_left_comm, mul-le-mul, mul-le-mul_left, mul-le-mul_right, arith}
+use Rattle.std.proofs.Common.{append_assoc, append-nil, mul-add, add-mul, mul-le-mul, mul-le-mul_left, mul-le-mul_right, arith}
 use Rattle.std.proofs.Math.Nat.{le_of_mul-le-mul_left}
-use Rattle.std.proofs.lemmas.Bool.{cases_lt}
 use Rattle.statistic.specs.Model.{Model, Admitted, IsLoss, CutFits, Close}
 
 -- the newest of a list of admitted items is admitted
@@ -21,10 +20,7 @@ loss_fits top loss h l = (omega arith, omega arith, omega arith, h)
 
 -- What follows adds no more to the whole than to its newer part: then a newer part that is near stays near.
 stays_near : (w n newer whole newer' whole' : ℕ) → w ≤ n → newer ≤ newer' → whole' + newer ≤ whole + newer' → w * whole ≤ n * newer → w * whole' ≤ n * newer'
-stays_near w n b a b' a' proper rises slower near =
-    let more : a' ≤ a + (b' - b) = omega arith in
-    let parts : b + (b' - b) ≡ b' = omega arith in
-    rw (← parts) (omega (arith, mul-le-mul_left w more, mul-add w a (b' - b), mul-add n b (b' - b), mul-le-mul_right (b' - b) proper, near))
+stays_near w n b a b' a' proper rises slower near = grind (arith, mul-le-mul_left w slower, mul-add, mul-le-mul_right (b' - b) proper)
 
 -- An f that never falls as items come in, and to which an older item adds the less the more follows it.
 pub record Slows {I : Type 0} (f : List I → ℕ) : Type 0 where
@@ -33,46 +29,23 @@ pub record Slows {I : Type 0} (f : List I → ℕ) : Type 0 where
 
 module _ {I : Type 0} (f : List I → ℕ) (s : Slows f) where
   pub grown : (A C : List I) → f A ≤ f (A ++ C)
-  grown A [] = rw append-nil (le_refl (f A))
-  grown A (x ∷ C) = le_trans (s.grows A x) (rw append_assoc at (grown (A ++ x ∷ []) C))
+  grown A [] = grind (arith, append-nil)
+  grown A (x ∷ C) = grind (arith, s.grows, append_assoc, grown (A ++ x ∷ []) C)
 
   slowed : (X B C : List I) → f ((X ++ B) ++ C) + f B ≤ f (X ++ B) + f (B ++ C)
-  slowed [] B C = omega arith
-  slowed (x ∷ X) B C = omega (arith, slowed X B C, s.slows x (X ++ B) C)
+  slowed [] B C = grind arith
+  slowed (x ∷ X) B C = grind (arith, s.slows, slowed X B C)
 
   pub slows_smooth : (loss : ℕ) (X B C : List I) → Close (loss, 1000) (f B) (f (X ++ B)) → (1000 - loss) * f ((X ++ B) ++ C) ≤ 1000 * f (B ++ C)
-  slows_smooth loss X B C near = stays_near (1000 - loss) 1000 (f B) (f (X ++ B)) (f (B ++ C)) (f ((X ++ B) ++ C)) (omega arith) (grown B C) (slowed X B C) near
+  slows_smooth loss X B C near = stays_near (1000 - loss) 1000 _ _ _ _ (omega arith) (grown B C) (slowed X B C) near
 
 -- A cut that fits is no larger than the loss: nearness by the cut is nearness by the loss.
 by_loss : (top loss : ℕ) (cut : ℕ × ℕ) (newer whole : ℕ) → IsLoss loss → CutFits top loss cut → Close cut newer whole → (1000 - loss) * whole ≤ 1000 * newer
-by_loss top loss (b, d) newer whole l fits near = le_of_mul-le-mul_left times_d (omega arith)
-  where
-    w : ℕ
-    w = 1000 - loss
-
-    wider : w * d ≤ 1000 * (d - b)
-    wider = let all : w + loss ≡ 1000 = omega arith in omega (arith, add-mul w loss d, ap (λ n. n * d) all)
-
-    times_d : d * (w * whole) ≤ d * (1000 * newer)
-    times_d = omega (arith, mul-le-mul_right whole wider, mul_assoc w d whole, mul_left_comm w d whole, mul_assoc 1000 (d - b) whole, mul_left_comm d 1000 newer, near)
+by_loss top loss (b, d) newer whole l fits near =
+    let wider : (1000 - loss) * d ≤ 1000 * (d - b) = grind (arith, add-mul (1000 - loss) loss d) in
+    let times : d * ((1000 - loss) * whole) ≤ d * (1000 * newer) = grind (arith, mul-le-mul_right whole wider) in
+    le_of_mul-le-mul_left times (omega arith)
 
 -- A ceiling c keeps smoothness: where near parts stay near without it, and the newer part never falls, they do with it.
 pub ceiling_smooth : (c top loss : ℕ) (cut : ℕ × ℕ) → IsLoss loss → CutFits top loss cut → (newer whole newer' whole' : ℕ) → newer ≤ newer' → (Close cut newer whole → (1000 - loss) * whole' ≤ 1000 * newer') → Close cut (min c newer) (min c whole) → (1000 - loss) * min c whole' ≤ 1000 * min c newer'
-ceiling_smooth c top loss cut l fits b a b' a' rises smooth near = ⊎_elim under (λ h. over (omega arith)) (cases_lt b' c)
-  where
-    w : ℕ
-    w = 1000 - loss
-
-    over : min c a' ≤ min c b' → w * min c a' ≤ 1000 * min c b'
-    over most = let proper : w ≤ 1000 = omega arith in mul-le-mul proper most
-
-    -- the ceiling is above the newer part: it may still cut the whole, from the start or only at the end
-    under : b' < c → w * min c a' ≤ 1000 * min c b'
-    under h =
-        let same : min c b ≡ b = omega arith in
-        let same' : min c b' ≡ b' = omega arith in
-        let near' : Close cut b (min c a) = rw same at near in
-        rw same' (⊎_elim
-        (λ (cuts : c < a). let is : min c a' ≤ min c a = omega arith in le_trans (mul-le-mul_left w is) (omega (arith, by_loss top loss cut b (min c a) l fits near')))
-        (λ (whole : a ≤ c). let is : min c a ≡ a = omega arith in let less : min c a' ≤ a' = omega arith in le_trans (mul-le-mul_left w less) (smooth (rw is at near')))
-        (cases_lt c a))
+ceiling_smooth c top loss cut l fits b a b' a' rises smooth near = grind (arith, smooth, by_loss top loss cut b c l fits, mul-le-mul)

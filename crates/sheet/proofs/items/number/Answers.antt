@@ -1,18 +1,17 @@
-use Rattle.std.proofs.Common.{◌^◌, ◌<◌, ◌≤◌, min, sym, arith, lit<}
+use Rattle.std.proofs.Common.{◌≡◌, ℕ, ◌^◌, ◌<◌, ◌≤◌, min, List, Some, sym, le_refl, arith, lit<}
 use native.Mathlib.Nat.{pow-le-pow_right}
+use Rattle.text.specs.Decimal.{spelled}
 use Rattle.text.proofs.Decimals.{spelled_small}
 use Rattle.sheet.proofs.items.number.Goals as goal
 
-small : (c : goal.In_ok-read_number) → c.in_ok-read_number.field-0 < 10 ^ c.args.most
-small c =
-    let few : min c.args.most 16 ≤ c.args.most = omega arith in
-    let p : 10 ^ min c.args.most 16 ≤ 10 ^ c.args.most = pow-le-pow_right (lit< tt) few in
-    omega (arith, spelled_small c.args.most _ _ (sym c.in_ok-read_number.ensures))
+below : (most n k : ℕ) (ds : List ℕ) → Some n ≡ spelled most ds → most ≤ k → n < 10 ^ k
+below most n k ds e few =
+    let fewer : min most 16 ≤ k = omega arith in
+    let p : 10 ^ min most 16 ≤ 10 ^ k = pow-le-pow_right (lit< tt) fewer in
+    omega (arith, spelled_small most n ds (sym e))
 
 pub overflow_cast-result : goal.overflow_cast-result
-overflow_cast-result c =
-    let p : 10 ^ c.args.most ≤ 10 ^ 9 = pow-le-pow_right (lit< tt) c.requires in
-    omega (arith, small c)
+overflow_cast-result c = omega (arith, below c.args.most _ 9 _ c.in_ok-read_number.ensures c.requires)
 
-pub returns : goal.returns
-returns c = record { value = c.in_ok-read_number.ensures; bound = small c }
+pub returns-clause-bound : goal.returns-clause-bound
+returns-clause-bound c = below c.args.most _ c.args.most _ c.in_ok-read_number.ensures (le_refl _)
