@@ -1,6 +1,7 @@
 // A meter that a host keeps in one place for both of its states. Each call says by a `requires` in which state it may come: a
 // program that feeds a stopped meter or loads a running one is not proved. (On `Stopped` and `Running` themselves there is no
-// such call at all, and the program does not compile.)
+// such call at all, and the program does not compile: the types are the plainer form, but an edit that makes a wrong call
+// keeps its meaning only where that compiles.)
 ghost use Rattle.first_take.specs.Held.{IsStopped, IsRunning, Loads, Starts, Feeds, Reads};
 
 use meter::{Running, Stopped};

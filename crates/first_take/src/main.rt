@@ -1,4 +1,4 @@
-// The shortest host: slots, a peak meter over them, one take of four samples, and its readings.
+// The shortest host: slots, a peak meter over them, one take of five samples, of which one is refused, and its reading.
 #![tactic(auto)]
 
 use crate::held::Held;
@@ -12,9 +12,7 @@ mod held;
 
 fn main(rt: HostRuntime) -> io::Result<()> {
     let mut slots = [Slot { start: 0, state: 0 }; 3];
-    let Ok(preset) = Preset::new(2, 500) else {
-        return println!(rt; "no such preset");
-    };
+    let preset = Preset::new(2, 500).unwrap();
     let wanted = slots_wanted::<Peak>(&preset);
     println!(rt; "slots wanted: {wanted}")?;
     let mut meter = Held::Stopped(Stopped::<Peak>::make(&mut slots));

@@ -3,7 +3,6 @@ use Rattle.std.proofs.Common.{◌≡◌, ℕ, ◌+◌, ◌-◌, ◌≤◌, true,
 use lib.Seq.{paste}
 use Rattle.std.specs.List.{prefix_len}
 use Rattle.std.proofs.lemmas.List.{take_rest}
-use Rattle.std.proofs.lemmas.List.Sums.{prefix_len-le-length}
 use Rattle.std.proofs.lemmas.List.Edits.{take-paste}
 use Rattle.histogram.specs.declared.slot.Slot.{Slot}
 use Rattle.histogram.specs.Method.{unexpired}
@@ -11,9 +10,6 @@ use Rattle.histogram.specs.Method.{unexpired}
 -- how many are passed: behind the first, as many as start at or before w
 abbrev passed : {S : Type 0} → ℕ → List (Slot S) → ℕ
 passed w slots = prefix_len (λ slot. leb slot.start w) (drop 1 slots)
-
-pub passed_within : {S : Type 0} (w : ℕ) (slots : List (Slot S)) → passed w slots ≤ length slots
-passed_within w slots = omega (arith, prefix_len-le-length (λ slot. leb slot.start w) (drop 1 slots), length-drop 1 slots)
 
 pub drop-passed : {S : Type 0} (w : ℕ) (slots : List (Slot S)) → drop (passed w slots) slots ≡ unexpired w slots
 drop-passed w [] = refl

@@ -10,8 +10,11 @@ fn passed<S>(slots: &[Slot<S>], w: u64) -> usize
     ensures within { result ≤ length slots.now }
     ensures count { result ≡ prefix_len (λ slot. nat_le slot.start w) (drop 1 slots.now) }
 {
-    let later = slots.iter().skip(1);
-    later.take_while(|slot| slot.start <= w).count()
+    slots
+        .iter()
+        .skip(1)
+        .take_while(|slot| slot.start <= w)
+        .count()
 }
 
 // Drops the slots that the window has passed, and answers how many are left at the front.

@@ -10,7 +10,7 @@ use statistic::Statistic;
 
 // The slots lent are the kept ones and, behind them, a free one. The item goes into every kept slot, and into the free one as
 // a new last slot that starts at `position`; then the slots are pruned, and those before the window's start `w` are dropped.
-// Answers how many are kept at the front, and 0 where no slot is lent.
+// Answers how many are kept at the front (a count, since the meter keeps the slots themselves), and 0 where no slot is lent.
 pub fn advance<T: Statistic>(
     slots: &mut [Slot<T::State>],
     item: T::Item,

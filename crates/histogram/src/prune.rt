@@ -31,26 +31,21 @@ pub(crate) fn prune<T: Statistic>(slots: &mut [Slot<T::State>], cut: (u64, u64))
     // An index for the slot that is read and one for the place that is written: no method of a slice drops elements of it.
     for i in 1..slots.len() {
         let value = T::value(&slots[i].state);
-        match held {
-            // the held slot lies between two near ones: it goes
-            Some(_) if near(cut, anchor, value) => {
-                count -= 1;
-                held = Some(value);
-            }
-            // the held slot is the last near one: it is the next anchor
-            Some(last) if near(cut, last, value) => {
-                anchor = last;
-                held = Some(value);
-            }
-            None if near(cut, anchor, value) => held = Some(value),
-            // near to no anchor: it is the next one
-            _ => {
-                anchor = value;
-                held = None;
+        let mut close = near(cut, anchor, value);
+        if let Some(last) = held {
+            if close {
+                count -= 1; // the held slot lies between two near ones: it goes
+            } else {
+                anchor = last; // the held slot is the last near one: it is the next anchor
+                close = near(cut, anchor, value);
             }
         }
         slots[count] = slots[i];
         count += 1;
+        if !close {
+            anchor = value;
+        }
+        held = close.then_some(value);
     }
     count
 }

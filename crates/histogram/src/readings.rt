@@ -1,4 +1,4 @@
-// What the kept slots read: a pair, low and high.
+// What the kept slots read: a pair, low and high. (A struct of two numbers would say no more.)
 ghost use Rattle.std.specs.Prelude.{◌≡◌};
 ghost use Rattle.histogram.specs.Method.{reading_of};
 
@@ -15,7 +15,7 @@ pub fn reading<T: Statistic>(kept: &[Slot<T::State>], w: u64) -> (u64, u64)
             let value = T::value(&first.state);
             (value, value)
         }
-        [first, second, ..] => (T::value(&second.state), T::value(&first.state)),
         [first] => (0, T::value(&first.state)),
+        [first, second, ..] => (T::value(&second.state), T::value(&first.state)),
     }
 }

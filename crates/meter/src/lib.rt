@@ -22,8 +22,9 @@ pub struct Stopped<'a, T: Statistic> {
     preset: Preset,
 }
 
-// A meter in a take: the kept slots lie at the front of those lent, and `now` counts the items that the take accepted. No ghost
-// field says that `kept` is within the slots: with one, a function that is passed a running meter and lets it go has no proof.
+// A meter in a take: the kept slots lie at the front of those lent, and `now` counts the items that the take accepted. The slots
+// are fixed memory, lent by the host, so `kept` stands beside them. No ghost field says that it is within them: with one, a
+// host's function that is passed a running meter and lets it go has no proof.
 pub struct Running<'a, T: Statistic> {
     slots: &'a mut [Slot<T::State>],
     kept: usize,

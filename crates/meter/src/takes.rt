@@ -1,4 +1,5 @@
-// The calls of a stopped meter, and the stop that leads back to one.
+// The calls of a stopped meter, and the stop that leads back to one. What each leaves of the preset and the slots is its own
+// promise, so each says it for itself.
 ghost use Rattle.std.specs.Prelude.{◌≡◌, [], length};
 ghost use Rattle.preset.specs.Questions.{view as numbers};
 ghost use Rattle.meter.specs.Take.{view, begun, Takes};

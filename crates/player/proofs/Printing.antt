@@ -1,4 +1,4 @@
--- Printing: an answer's text fits the line that it is written into, and is put at the end of what is printed.
+-- Printing part after part at the end of what was there.
 use Rattle.std.proofs.Common.{◌≡◌, ℕ, ◌≤◌, List, ◌++◌, length, Ok, Err, vec_items, vec_capacity, Result, Vec, ap, ◌∙◌, le_trans, arith}
 use Rattle.player.specs.Room.{Prints}
 

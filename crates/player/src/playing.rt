@@ -64,7 +64,8 @@ fn play_kind(setup: Setup, events: &[u8], out: &mut Vec<u8>) -> Result<(), Alloc
     }
 }
 
-// Slots for a meter: one that is not kept may hold anything. (Lent at a known kind: nothing bounds a generic state's size.)
+// Slots for a meter: one that is not kept may hold anything. (They are lent where the kind is known, in an arm for each kind, since
+// nothing says of any kind at all how large its state is.)
 fn slots<T: Statistic>() -> [Slot<T::State>; SLOTS] {
     let free = Slot {
         start: 0,

@@ -15,8 +15,8 @@ use Rattle.std.proofs.lemmas.Slice.Eq.{starts_is}
 use Rattle.std.proofs.lemmas.Bool.Decides.{Decides-eqb}
 use Rattle.std.proofs.lemmas.Grind.{common_steps}
 use Rattle.text.specs.Lines.{line}
-use Rattle.text.specs.Shown.{placed}
-use Rattle.text.proofs.Fronts.{pushed}
+use Rattle.text.specs.Placed.{placed}
+use Rattle.text.proofs.Fronts.{front_front}
 use Rattle.text.proofs.Decimals.{spelled_decimal}
 use Rattle.text.proofs.Lines.{one_line, first_line, one_line_decimal}
 
@@ -58,13 +58,9 @@ module _ (s : Setup) where
         reads_back = grind (arith, common_steps, read_written);
       }
 
--- what is cut off before more is put behind is cut off later
-cut_later : (s t : List ℕ) → take 64 (take 64 s ++ t) ≡ take 64 (s ++ t)
-cut_later s t = pushed _ _ s t refl refl
-
 -- seven pieces that are put one behind the other
 seven : (a b c d e f g : List ℕ) → length (a ++ (b ++ (c ++ (d ++ (e ++ (f ++ g)))))) ≤ 64 → take 64 (take 64 (take 64 (take 64 (take 64 (take 64 (take 64 ([] ++ a) ++ b) ++ c) ++ d) ++ e) ++ f) ++ g) ≡ a ++ (b ++ (c ++ (d ++ (e ++ (f ++ g)))))
-seven a b c d e f g h = simp (cut_later, append_assoc) (take_all 64 (a ++ (b ++ (c ++ (d ++ (e ++ (f ++ g)))))) h)
+seven a b c d e f g h = simp (front_front, append_assoc) (take_all 64 (a ++ (b ++ (c ++ (d ++ (e ++ (f ++ g)))))) h)
 
 -- the text as `spell` pushes it, piece by piece
 pub in_pieces : (s : Setup) → take 64 (take 64 (take 64 (take 64 (take 64 (take 64 (take 64 ([] ++ codes "kind=") ++ word s.kind) ++ 10 ∷ codes "window=") ++ decimal s.preset.window) ++ 10 ∷ codes "loss=") ++ decimal s.preset.loss) ++ 10 ∷ []) ≡ written s.kind (view s.preset)

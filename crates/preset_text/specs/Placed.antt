@@ -4,7 +4,7 @@ use Rattle.preset_text.specs.Reading.{read_text}
 use Rattle.preset_text.specs.Words.{written}
 use Rattle.preset_text.specs.declared.kind.Kind.{Kind}
 use Rattle.refusal.specs.declared.Refusal.{Refusal}
-use Rattle.text.specs.Shown.{placed}
+use Rattle.text.specs.Placed.{placed}
 
 -- for a kind and a preset, as window and loss: the buffer before and after, and the answer
 pub record Wrote (kind : Kind) (preset : ℕ × ℕ) (before after : List ℕ) (r : Result ℕ Refusal) : Type 0 where

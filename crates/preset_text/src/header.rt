@@ -2,7 +2,7 @@
 ghost use Rattle.preset_text.specs.Headed.{HeaderOf};
 
 use crate::line::three_lines;
-use crate::reading::answer;
+use crate::reading::setup_of;
 use crate::setup::Setup;
 use refusal::Refusal;
 
@@ -12,6 +12,6 @@ pub fn read_header(text: &[u8]) -> Result<(Setup, &[u8]), Refusal>
     ensures { HeaderOf text.now result }
 {
     let lines = three_lines(text)?;
-    let setup = answer(lines)?;
+    let setup = setup_of(lines)?;
     Ok((setup, lines.rest))
 }

@@ -1,4 +1,5 @@
-// The lines of a preset text. Each is handed on with its key and its value, both borrowed from the text.
+// The lines of a preset text. Each is handed on with its key and its value, both borrowed from the text. That preset lines do so,
+// and that header lines are taken by `let .. else`, is a rule of this project (docs/DECISIONS.md, Forms).
 ghost use Rattle.std.specs.Prelude.{◌≡◌, None, MatchOption};
 ghost use Rattle.preset_text.specs.Lines.{Keyed, Says, Next, three};
 ghost use Rattle.preset_text.specs.Reading.{behind, three_lines};
@@ -54,8 +55,7 @@ fn next_preset_line(text: &[u8]) -> Option<(PresetLine<'_>, &[u8])>
     Some((PresetLine::from(line), rest))
 }
 
-// The first three lines of a text, where they are those of a preset. Each is a `let .. else` of its own, since a chain of
-// `ok_or` would still have to take the one case that stands in its place.
+// The first three lines of a text, where they are those of a preset.
 #[tactic(auto, unfolding(crate::specs::Reading::three_lines))]
 pub(crate) fn three_lines(text: &[u8]) -> Result<ThreeLines<'_>, Refusal>
     ensures { three result ≡ three_lines text.now }

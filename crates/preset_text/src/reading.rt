@@ -21,17 +21,18 @@ pub fn read(text: &[u8]) -> Result<Setup, Refusal>
     if !lines.rest.is_empty() {
         return Err(Refusal::NotThreeLines);
     }
-    answer(lines)
+    setup_of(lines)
 }
 
 // What the values of three lines stand for.
 #[tactic(auto, using(text::proofs::Decimals::spelled_small), unfolding(crate::specs::Reading::answered))]
-pub(crate) fn answer(lines: ThreeLines<'_>) -> Result<Setup, Refusal>
+pub(crate) fn setup_of(lines: ThreeLines<'_>) -> Result<Setup, Refusal>
     ensures { kept result ≡ answered (lines.entry.kind.now, lines.entry.window.now, lines.entry.loss.now) }
 {
     let kind = Kind::try_from(lines.kind)?;
     let window = read_number(7, lines.window).ok_or(Refusal::MalformedNumber)?;
     let loss = read_number(7, lines.loss).ok_or(Refusal::MalformedNumber)?;
+    // seven digits fit 32 bits, so that nothing is lost and no `try_from` can fail
     let preset = Preset::new(window as u32, loss as u32)?;
     Ok(Setup { kind, preset })
 }

@@ -3,7 +3,6 @@ ghost use Rattle.std.specs.Prelude.{◌≡◌};
 ghost use Rattle.preset.specs.Questions.{view};
 ghost use Rattle.preset_text.specs.Placed.{Wrote};
 ghost use Rattle.preset_text.specs.Words.{written};
-ghost use Rattle.text.specs.Shown.{shown};
 
 use crate::setup::Setup;
 use refusal::Refusal;
@@ -19,7 +18,7 @@ pub fn write(setup: &Setup, out: &mut [u8]) -> Result<usize, Refusal>
 
 #[tactic(auto, using(crate::proofs::Written::in_pieces))]
 fn spell(setup: &Setup) -> Short
-    ensures { shown result ≡ written setup.now.kind (view setup.now.preset) }
+    ensures { result ≡ written setup.now.kind (view setup.now.preset) }
 {
     let mut text = Short::new();
     text.push(b"kind=");

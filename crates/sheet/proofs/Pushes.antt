@@ -10,12 +10,13 @@ use Rattle.sheet.specs.Answers.{number_line}
 pub fitted : (s t known piece : List ℕ) → t ≡ take 64 (s ++ piece) → s ≡ known → length known + length piece ≤ 64 → t ≡ known ++ piece
 fitted s t known piece p e few = p ∙ ap (λ l. take 64 (l ++ piece)) e ∙ take_all 64 (known ++ piece) (simp length-append few)
 
+-- a line of a number is not much longer than its name
 pub length-number_line : (name : List ℕ) (n : ℕ) → n < 2 ^ 64 → length (number_line name n) ≤ length name + 21
 length-number_line name n fits =
     let short = length-decimal-le 20 n (omega arith) (omega arith) fits in
     simp length-append (omega arith)
 
--- the same at a line of a number
+-- a line of a number pushed behind what is known
 pub number_fitted : (s t known name : List ℕ) (n : ℕ) → t ≡ take 64 (s ++ number_line name n) → s ≡ known → n < 2 ^ 64 → length known + length name ≤ 43 → t ≡ known ++ number_line name n
 number_fitted s t known name n p e fits few =
     fitted s t known (number_line name n) p e (omega (arith, length-number_line name n fits))

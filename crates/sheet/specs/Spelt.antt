@@ -13,6 +13,8 @@ use Rattle.std.proofs.lemmas.Bool.{eqb-true, eq-eqb, ne_eqb, lt-ltb, cases_lt, c
 use Rattle.std.proofs.lemmas.List.Sums.{position_or_len_is}
 use Rattle.std.proofs.lemmas.List.Quantifiers.{position-Some}
 use Rattle.text.specs.Decimal.{spelled}
+use Rattle.text.specs.Lines.{split_once}
+use Rattle.text.proofs.Lines.{splits_at_first}
 use Rattle.text.proofs.Decimals.{digits_own, spelled_decimal, spelled_small, decimal_spelled}
 use Rattle.statistic.specs.declared.hit.Hit.{Hit}
 use Rattle.sheet.specs.Items.{negative, sample_of, SevenDigits, hit_from, hit_behind, hit_of, hit_text, ThreeDigits}
@@ -125,3 +127,11 @@ hit_at_comma t k at = go (hit_behind k t) refl (hit_of t) refl
         let is = hit_both t h f in
         let same : Some k ≡ Some (length (decimal h.note)) = at ∙ ap (position (λ b. b == 44)) is.0 ∙ first_comma h is.1 in
         sym e ∙ ap (hit_behind k) is.0 ∙ read_behind h is.1 k (cc)
+
+-- the same of the two parts of a text that is split at its first comma
+pub hit_at_split : (t a b : List ℕ) → Some (a, b) ≡ split_once t 44 → hit_from (spelled 3 a) (spelled 3 b) ≡ hit_of t
+hit_at_split t a b is = go (position (λ b. b == 44) t) refl
+  where
+    go : (o : Option ℕ) → o ≡ position (λ b. b == 44) t → hit_from (spelled 3 a) (spelled 3 b) ≡ hit_of t
+    go None e = absurd (grind (arith, splits_at_first t 44))
+    go (Some k) e = grind (arith, splits_at_first t 44, hit_at_comma t k e)

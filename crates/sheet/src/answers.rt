@@ -2,7 +2,7 @@
 // are, or refuses a buffer that is too short and leaves all of it. (There is no heap for a String to lie in.)
 ghost use Rattle.std.specs.Prelude.{◌≡◌, ◌≤◌, ◌++◌, length, take, decimal};
 ghost use Rattle.text.specs.Lines.{line};
-ghost use Rattle.text.specs.Shown.{shown, placed};
+ghost use Rattle.text.specs.Placed.{placed};
 ghost use Rattle.sheet.specs.Answers.{said, reading_text, verdict_text, refusal_text};
 
 use crate::answer::Answer;
@@ -10,22 +10,29 @@ use meter::Verdict;
 use refusal::Refusal;
 use text::Short;
 
-// Writes the lines of an answer, which are at most 64 bytes.
+// Writes the lines of an answer to the front of `out`; 64 bytes are always enough.
 pub fn write_answer(answer: Answer, out: &mut [u8]) -> Result<usize, Refusal>
     ensures answer { result ≡ (placed (said answer) out.old).0 }
     ensures after { out.new ≡ (placed (said answer) out.old).1 }
     ensures short { length (said answer) ≤ 64 }
 {
+    answer_lines(answer).write_to(out)
+}
+
+// The lines of an answer, as a text.
+pub fn answer_lines(answer: Answer) -> Short
+    ensures { result ≡ said answer }
+{
     match answer {
-        Answer::Reading(low, high) => reading_lines(low, high).write_to(out),
-        Answer::Judged(verdict) => verdict_line(verdict).write_to(out),
-        Answer::Refused(refusal) => refusal_line(refusal).write_to(out),
+        Answer::Reading(low, high) => reading_lines(low, high),
+        Answer::Judged(verdict) => verdict_line(verdict),
+        Answer::Refused(refusal) => refusal_line(refusal),
     }
 }
 
 // The two bounds of a reading, a line each.
 fn reading_lines(low: u64, high: u64) -> Short
-    ensures { shown result ≡ reading_text low high }
+    ensures { result ≡ reading_text low high }
 {
     let mut text = Short::new();
     push_line(&mut text, b"low=", digits(low).as_bytes());
@@ -35,7 +42,7 @@ fn reading_lines(low: u64, high: u64) -> Short
 
 // What a reading says of a mark.
 fn verdict_line(verdict: Verdict) -> Short
-    ensures { shown result ≡ verdict_text verdict }
+    ensures { result ≡ verdict_text verdict }
 {
     let word: &[u8] = match verdict {
         Verdict::Above => b"above",
@@ -49,7 +56,7 @@ fn verdict_line(verdict: Verdict) -> Short
 
 // The number of a refusal.
 fn refusal_line(refusal: Refusal) -> Short
-    ensures { shown result ≡ refusal_text refusal }
+    ensures { result ≡ refusal_text refusal }
 {
     let mut text = Short::new();
     push_line(
@@ -62,7 +69,7 @@ fn refusal_line(refusal: Refusal) -> Short
 
 // Puts a line at the end of `text`. Not by `write!`: its contract tells the bytes only for Ok, and not that it answers Ok.
 fn push_line(text: &mut Short, name: &[u8], value: &[u8])
-    ensures { shown text.new ≡ take 64 (shown text.old ++ line name.now value.now) }
+    ensures { text.new ≡ take 64 (text.old ++ line name.now value.now) }
 {
     text.push(name);
     text.push(value);
@@ -70,7 +77,7 @@ fn push_line(text: &mut Short, name: &[u8], value: &[u8])
 }
 
 fn digits(n: u64) -> Short
-    ensures { shown result ≡ decimal n }
+    ensures { result ≡ decimal n }
 {
     let mut text = Short::new();
     text.push_number(n);

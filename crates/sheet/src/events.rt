@@ -6,7 +6,8 @@ use crate::event::Event;
 use crate::items::ItemText;
 use text::read_number;
 
-// The event of a line, which is given without its line end.
+// The event of a line, which is given without its line end. An Option and no `TryFrom`: what it means that a line is no event is
+// for the caller to say.
 pub fn read_event<I: ItemText>(line: &[u8]) -> Option<Event<I>>
     ensures { result ≡ event_of I.ItemText.meant line.now }
 {

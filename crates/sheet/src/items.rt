@@ -1,16 +1,15 @@
 // The items of a sheet as text: samples and hits.
-ghost use Rattle.std.specs.Prelude.{◌≡◌, ℕ, ◌^◌, ◌<◌, ◌≤◌, List, IfSome, Some, Option, ◌==◌};
-ghost use Rattle.std.specs.List.{position};
+ghost use Rattle.std.specs.Prelude.{◌≡◌, ℕ, ◌^◌, ◌<◌, ◌≤◌, List, IfSome, Some, Option};
 ghost use Rattle.std.specs.Fmt.{signed_decimal};
 ghost use Rattle.text.specs.Decimal.{spelled};
 ghost use Rattle.sheet.specs.Items.{sample_of, SevenDigits, hit_of, hit_text, ThreeDigits};
 ghost use Rattle.sheet.specs.Spelt.{sample_own, sample_only, hit_own, hit_only};
 
 use statistic::hit::Hit;
-use text::read_number;
+use text::{read_number, split_once};
 
 // An item that event lines can feed: `meant` tells the item of a text, and `spelt` the text of an item. An item is read
-// from its own text, if that is short enough, and from no other.
+// from its own text, if that is short enough, and from no other. (Laws that `TryFrom` has no place for.)
 pub trait ItemText: Copy {
     ghost meant: { List ℕ → Option Self };
 
@@ -61,20 +60,16 @@ impl ItemText for Hit {
     ghost only = { hit_only };
 
     fn read_item(text: &[u8]) -> Option<Hit> {
-        let comma = first_comma(text)?;
-        let note = number(3, &text[..comma])? as u16;
-        let velocity = number(3, &text[comma + 1..])? as u16;
-        Some(Hit { note, velocity })
+        let (note, velocity) = split_once(text, b',')?;
+        Some(Hit {
+            note: number(3, note)? as u16,
+            velocity: number(3, velocity)? as u16,
+        })
     }
 }
 
-fn first_comma(text: &[u8]) -> Option<usize>
-    ensures { result ≡ position (λ b. b == 44) text.now }
-{
-    text.iter().position(|b| *b == b',')
-}
-
-// A number of so few digits that 32 bits hold it.
+// A number of so few digits that 32 bits hold it: it is cast, here and above, since a `try_from` could not fail. (A preset's two
+// numbers are cast where they are read: a line in each place, and a function for both could not ask that the digits be few.)
 fn number(most: usize, digits: &[u8]) -> Option<u32>
     requires { most ≤ 9 }
     ensures value { result ≡ spelled most digits.now }

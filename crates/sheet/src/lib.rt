@@ -10,7 +10,7 @@ mod items;
 mod tests;
 
 pub use answer::Answer;
-pub use answers::write_answer;
+pub use answers::{answer_lines, write_answer};
 pub use event::Event;
 pub use events::read_event;
 pub use items::ItemText;

@@ -44,7 +44,8 @@ pub trait Statistic {
     fn top() -> u64
         ensures { result ≡ model.top };
 
-    // The fraction by which slots are pruned at a loss, as numerator and denominator.
+    // The fraction by which slots are pruned at a loss, as numerator and denominator. A pair, since the two numbers are bound by
+    // the laws alone, at the losses of presets: a struct of them would have no invariant to hold.
     fn cut(loss: u32) -> (u64, u64)
         ensures { result ≡ model.cut loss };
 }

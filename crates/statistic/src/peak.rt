@@ -8,6 +8,7 @@ use crate::thousandths::thousandths;
 
 pub struct Peak;
 
+// As for Energy, `admits`, `empty` and `value` are a line each.
 impl Statistic for Peak {
     type Item = i32;
 

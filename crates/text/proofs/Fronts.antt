@@ -2,7 +2,7 @@
 use Rattle.std.proofs.Common.{◌≡◌, ℕ, zero, suc, List, [], ◌∷◌, ◌++◌, take, refl, ap, ◌∙◌}
 
 -- what is cut off before more is put behind would be cut off later too
-front_front : (n : ℕ) (xs ys : List ℕ) → take n (take n xs ++ ys) ≡ take n (xs ++ ys)
+pub front_front : (n : ℕ) (xs ys : List ℕ) → take n (take n xs ++ ys) ≡ take n (xs ++ ys)
 front_front zero xs ys = refl
 front_front (suc n) [] ys = refl
 front_front (suc n) (x ∷ xs) ys = ap (λ l. x ∷ l) (front_front n xs ys)

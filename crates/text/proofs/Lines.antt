@@ -7,7 +7,7 @@ use Rattle.std.proofs.lemmas.Fmt.{digits_decimal}
 use Rattle.std.proofs.lemmas.Option.{MatchOption-at_some, MatchOption-at_none}
 use Rattle.std.proofs.lemmas.Bool.Decides.{nat_tests}
 use Rattle.text.proofs.Decimals.{digits_own}
-use Rattle.text.specs.Lines.{next_line, lines}
+use Rattle.text.specs.Lines.{split_once, next_line, lines}
 
 -- no byte 10
 abbrev pub one_line : List ℕ → Bool
@@ -46,7 +46,7 @@ lines_step t l rest e = (MatchOption-at_some (lines t ≡ ([], t)) _ (l, rest) e
 pub lines_end : (t : List ℕ) → next_line t ≡ None → lines t ≡ ([], t)
 lines_end t e = MatchOption-at_none _ _ e (taken t)
 
--- the first line ends at the first byte 10
-pub ends_at_first : (t : List ℕ) → next_line t ≡ option_map (λ i. (take i t, drop (i + 1) t)) (position (λ b. b == 10) t)
-ends_at_first [] = refl
-ends_at_first (b ∷ bs) = grind (arith, nat_tests, ends_at_first bs)
+-- a text is split where the library's `position` finds the byte
+pub splits_at_first : (t : List ℕ) (c : ℕ) → split_once t c ≡ option_map (λ i. (take i t, drop (i + 1) t)) (position (λ b. b == c) t)
+splits_at_first [] c = refl
+splits_at_first (b ∷ bs) c = grind (arith, nat_tests, splits_at_first bs c)

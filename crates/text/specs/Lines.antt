@@ -2,10 +2,14 @@
 use Rattle.std.specs.Prelude.{ℕ, cond, List, [], ◌∷◌, ◌++◌, Some, None, Option, ◌==◌}
 use Rattle.std.specs.Option.{option_map}
 
--- the bytes before the first byte 10, and the bytes behind it
+-- the bytes before the first byte c, and the bytes behind it
+abbrev pub split_once : List ℕ → ℕ → Option (List ℕ × List ℕ)
+split_once [] c = None
+split_once (b ∷ bs) c = cond (b == c) (Some ([], bs)) (option_map (λ p. (b ∷ p.0, p.1)) (split_once bs c))
+
+-- the first line, and the bytes behind its end
 abbrev pub next_line : List ℕ → Option (List ℕ × List ℕ)
-next_line [] = None
-next_line (b ∷ bs) = cond (b == 10) (Some ([], bs)) (option_map (λ p. (b ∷ p.0, p.1)) (next_line bs))
+next_line t = split_once t 10
 
 -- a byte put before a text that is cut into lines
 abbrev pub before : ℕ → List (List ℕ) × List ℕ → List (List ℕ) × List ℕ

@@ -7,6 +7,6 @@ mod short;
 #[cfg(test)]
 mod tests;
 
-pub use line::next_line;
+pub use line::{next_line, split_once};
 pub use number::read_number;
 pub use short::Short;

@@ -1,20 +1,28 @@
 // A text of at most 64 bytes that is built in place, without allocation, and written out.
-ghost use Rattle.std.specs.Prelude.{◌≡◌, [], ◌++◌, take, decimal};
-ghost use Rattle.text.specs.Shown.{shown, placed};
+ghost use Rattle.std.specs.Prelude.{◌≡◌, ℕ, List, [], ◌++◌, take, decimal};
+ghost use Rattle.text.specs.Placed.{placed};
 
 use arrayvec::ArrayVec;
 use itoa::Buffer;
 use refusal::Refusal;
+use std::marker::Model;
 
 #[derive(Drop)]
 pub struct Short {
     bytes: ArrayVec<u8, 64>,
 }
 
+// A text is its bytes: contracts speak of a `Short` as of the list of them.
+impl Model for Short {
+    ghost Value = { List ℕ };
+
+    ghost view = { λ s. s.bytes.items };
+}
+
 impl Short {
     // The text of no bytes.
     pub fn new() -> Short
-        ensures { shown result ≡ [] }
+        ensures { result ≡ [] }
     {
         Short {
             bytes: ArrayVec::new(),
@@ -22,31 +30,30 @@ impl Short {
     }
 
     pub fn as_bytes(&self) -> &[u8]
-        ensures { result.now ≡ shown self.now }
+        ensures { result.now ≡ self.now }
     {
         self.bytes.as_slice()
     }
 
     // Puts `bytes` at the end; what passes 64 bytes is left out.
     pub fn push(&mut self, bytes: &[u8])
-        ensures { shown self.new ≡ take 64 (shown self.old ++ bytes.now) }
+        ensures { self.new ≡ take 64 (self.old ++ bytes.now) }
     {
-        // as many as there is room for, so that none of them is refused
         let n = self.bytes.remaining_capacity().min(bytes.len());
-        let _ = self.bytes.try_extend_from_slice(&bytes[..n]);
+        self.bytes.try_extend_from_slice(&bytes[..n]).unwrap();
     }
 
     // Puts the decimal digits of `n` at the end.
     pub fn push_number(&mut self, n: u64)
-        ensures { shown self.new ≡ take 64 (shown self.old ++ decimal n) }
+        ensures { self.new ≡ take 64 (self.old ++ decimal n) }
     {
         self.push(Buffer::new().format(n).as_bytes());
     }
 
     // Writes the text to the front of `out` and answers its length, or refuses and leaves `out` as it is.
     pub fn write_to(&self, out: &mut [u8]) -> Result<usize, Refusal>
-        ensures answer { result ≡ (placed (shown self.now) out.old).0 }
-        ensures after { out.new ≡ (placed (shown self.now) out.old).1 }
+        ensures answer { result ≡ (placed self.now out.old).0 }
+        ensures after { out.new ≡ (placed self.now out.old).1 }
     {
         let text = self.as_bytes();
         let (front, _) = out

@@ -1,14 +1,19 @@
-use Rattle.std.proofs.Common.{◌+◌, arith}
-use Rattle.std.proofs.lemmas.List.{take_rest}
-use Rattle.sheet.specs.Spelt.{hit_at_comma}
+use Rattle.std.proofs.Common.{◌≡◌, arith}
+use Rattle.text.specs.Decimal.{spelled}
+use Rattle.sheet.specs.Items.{hit_from, hit_of}
+use Rattle.sheet.specs.Spelt.{hit_at_split}
 use Rattle.sheet.proofs.items.HitItemText.read_item.Goals as goal
+use Rattle.sheet.proofs.items.HitItemText.read_item.Goals.{In_ok-note}
 
-pub returns-in_err-note : goal.returns-in_err-note
-returns-in_err-note c = grind (arith, hit_at_comma c.args.text.now c.in_ok-comma.comma c.in_ok-comma.ensures)
+-- the two parts of the text are read as the whole is
+parts : (c : In_ok-note) → hit_from (spelled 3 c.in_ok-note.note.now) (spelled 3 c.in_ok-note.velocity.now) ≡ hit_of c.args.text.now
+parts c = hit_at_split c.args.text.now c.in_ok-note.note.now c.in_ok-note.velocity.now c.in_ok-note.ensures
 
-pub returns-in_err-velocity : goal.returns-in_err-velocity
-returns-in_err-velocity c =
-    grind (arith, hit_at_comma c.args.text.now c.in_ok-comma.comma c.in_ok-comma.ensures, take_rest c.args.text.now (c.in_ok-comma.comma + 1))
+pub returns-in_err-number : goal.returns-in_err-number
+returns-in_err-number c = let is = parts (goal.at.returns-in_err-number c).In_ok-note in grind (arith, is)
+
+pub returns-in_err-number-2 : goal.returns-in_err-number-2
+returns-in_err-number-2 c = let is = parts (goal.at.returns-in_err-number-2 c).In_ok-note in grind (arith, is)
 
 pub returns : goal.returns
-returns c = grind (arith, hit_at_comma c.args.text.now c.in_ok-comma.comma c.in_ok-comma.ensures, take_rest c.args.text.now (c.in_ok-comma.comma + 1))
+returns c = let is = parts (goal.at.returns c).In_ok-note in grind (arith, is)

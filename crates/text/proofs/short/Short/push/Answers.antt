@@ -8,4 +8,4 @@ pub returns : goal.returns
 returns c =
     let room = c.remaining_capacity.result in
     let bytes = c.args.bytes.now in
-    grind (arith, common_steps, take_min room bytes, take-append-add c.args.self.now.bytes.items bytes room)
+    grind (arith, common_steps, take_min room bytes, take-append-add c.args.self.now bytes room)
