@@ -1,17 +1,18 @@
 -- Digits that are read and written: a number reads as its value, and reading and writing undo each other.
-use Rattle.std.proofs.Common.{◌≡◌, ℕ, ◌^◌, ◌<◌, ◌≤◌, min, true, false, List, [], ◌∷◌, length, get_or, Some, None, decimal, refl, sym, ap, ◌∙◌, arith, lit<}
+use Rattle.std.proofs.Common.{◌≡◌, ⊎_elim, cond, ℕ, ◌^◌, ◌<◌, ◌≤◌, min, true, false, List, [], ◌∷◌, ◌+◌, ◌-◌, ◌*◌, ◌%◌, length, get_or, Some, None, Option, decimal, refl, sym, ap, ◌∙◌, pow-suc, add-one, arith, lit<}
 use native.Mathlib.Nat.{pow-le-pow_right}
-use Rattle.std.specs.Prelude.{Result, Ok}
-use Rattle.std.specs.Char.{is_ascii_digit}
-use Rattle.std.specs.List.{list_all}
-use Rattle.std.specs.Str.{all_ascii_digits, IsUtf8}
-use Rattle.std.specs.Str.Parse.{digits_value, ParsesUnsigned}
+use Rattle.std.specs.Char.{digit_value, is_ascii_digit}
+use Rattle.std.specs.Int.{IsInRange}
+use Rattle.std.specs.Str.{all_ascii_digits}
+use Rattle.std.specs.Str.Parse.{digits_value, digits_value_after}
+use Rattle.std.proofs.lemmas.Bool.{cases_Bool}
 use Rattle.std.proofs.lemmas.Bool.Decides.{nat_tests}
-use Rattle.std.proofs.lemmas.Fmt.{decimal_nonempty, decimal_digit, length-decimal-le, first_decimal, decimal-digits_value, digits_decimal, digits_value-decimal, IsAscii-from_digits}
+use Rattle.std.proofs.lemmas.Fmt.{decimal_nonempty, decimal_digit, length-decimal-le, first_decimal, decimal-digits_value, digits_decimal, digits_value-decimal}
 use Rattle.std.proofs.lemmas.Option.{cond_some}
-use Rattle.std.proofs.lemmas.Str.{IsUtf8-from_ascii}
-use Rattle.std.proofs.lemmas.Str.Parse.{IsNumeralModel, numerals_by_value, tells_all_ascii_digits, digits_value_short, parse_gives}
+use Rattle.std.proofs.lemmas.Str.{digit_value_digit}
+use Rattle.std.proofs.lemmas.Str.Parse.{IsNumeralModel, numerals_by_value, tells_all_ascii_digits, digits_value_short}
 use Rattle.text.specs.Decimal.{leading_zero, is_number, spelled}
+use Rattle.text.proofs.Tried.{try_each}
 
 pub no_number : (most : ℕ) (ds : List ℕ) → is_number most ds ≡ false → None ≡ spelled most ds
 unfolding spelled
@@ -33,23 +34,33 @@ parts most ds y = grind (arith, nat_tests)
 number_from : (most : ℕ) (ds : List ℕ) → 1 ≤ length ds → length ds ≤ min most 16 → leading_zero ds ≡ false → all_ascii_digits ds ≡ true → is_number most ds ≡ true
 number_from most ds some few front all = grind (arith, nat_tests)
 
-pub all_digits : (ds : List ℕ) → all_ascii_digits ds ≡ list_all is_ascii_digit ds
-all_digits [] = refl
-all_digits (d ∷ ds) = grind (arith, all_digits ds)
-
 pub digits_own : IsNumeralModel (λ ds. all_ascii_digits ds ≡ true) (digits_value 10)
 digits_own = numerals_by_value _ tells_all_ascii_digits
 
--- a number is text
-pub number_utf8 : (most : ℕ) (ds : List ℕ) → is_number most ds ≡ true → IsUtf8 ds
-number_utf8 most ds y = IsUtf8-from_ascii ds (IsAscii-from_digits ds (digits_own.to ds (parts most ds y).3))
+-- a number with one digit behind it, and none where the byte is no digit
+abbrev pub with_digit : ℕ → ℕ → Option ℕ
+with_digit n d = cond (is_ascii_digit d) (Some ((n * 10 % 2 ^ 64 + (d - 48)) % 2 ^ 64)) None
 
--- a number is parsed as its value
-pub number_parses : {E : Type 0} (most : ℕ) (ds : List ℕ) (r : Result ℕ E) → is_number most ds ≡ true → ParsesUnsigned 64 10 ds r → r ≡ Ok (digits_value 10 ds)
-number_parses most ds r y h =
-    let p = parts most ds y in
-    let small = digits_value_short digits_own ds 16 p.3 (omega (arith, p.1)) in
-    parse_gives digits_own 64 ds r h p.3 (omega (arith, p.0)) (omega (arith, small))
+-- to read on behind a number of k digits at most: of sixteen digits in all, none is lost
+pub reads_on : (ds : List ℕ) (n k : ℕ) → n < 10 ^ k → k + length ds ≤ 16 → try_each with_digit n ds ≡ cond (all_ascii_digits ds) (Some (digits_value_after 10 n ds)) None
+reads_on [] n k small few = refl
+reads_on (d ∷ ds) n k small few =
+    ⊎_elim
+    (λ (is : is_ascii_digit d ≡ true).
+    let within : IsInRange 48 57 d = grind (arith, nat_tests) in
+    let fewer : k ≤ 15 = omega arith in
+    let room : 10 ^ k ≤ 10 ^ 15 = pow-le-pow_right (lit< tt) fewer in
+    let longer : 10 ^ (k + 1) ≡ 10 ^ k * 10 = rw add-one (pow-suc 10 k) in
+    let step : (n * 10 % 2 ^ 64 + (d - 48)) % 2 ^ 64 ≡ n * 10 + digit_value d = omega (arith, digit_value_digit d within) in
+    rw (is, step) (reads_on ds (n * 10 + digit_value d) (k + 1) (omega (arith, digit_value_digit d within)) (omega arith)))
+    (λ (not : is_ascii_digit d ≡ false). rw not)
+    (cases_Bool (is_ascii_digit d))
+
+-- what few digits tell is what they spell, where no 0 stands before others
+pub spelled_by : (most : ℕ) (ds : List ℕ) (n : Option ℕ) → 1 ≤ length ds → length ds ≤ min most 16 → leading_zero ds ≡ false
+    → (length ds ≤ 16 → n ≡ cond (all_ascii_digits ds) (Some (digits_value 10 ds)) None) → n ≡ spelled most ds
+unfolding spelled
+spelled_by most ds n some few front tells = let is = tells (omega arith) in grind (arith, nat_tests)
 
 -- what is written for a number reads as that number
 pub spelled_decimal : (most n : ℕ) → 0 < most → most ≤ 16 → n < 10 ^ most → spelled most (decimal n) ≡ Some n

@@ -1,3 +1,4 @@
 pub mod Decimals
 pub mod Fronts
 pub mod Lines
+pub mod Tried

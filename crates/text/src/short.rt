@@ -1,5 +1,5 @@
 // A text of at most 64 bytes that is built in place, without allocation, and written out.
-ghost use Rattle.std.specs.Prelude.{◌≡◌, ℕ, List, [], ◌++◌, take, decimal};
+ghost use Rattle.std.specs.Prelude.{◌≡◌, ℕ, ◌≤◌, List, [], ◌++◌, length, take, decimal};
 ghost use Rattle.text.specs.Placed.{placed};
 
 use arrayvec::ArrayVec;
@@ -12,7 +12,7 @@ pub struct Short {
     bytes: ArrayVec<u8, 64>,
 }
 
-// A text is its bytes: contracts speak of a `Short` as of the list of them.
+// A text is its bytes: contracts speak of a `Short` as of the list of them. So each call that is lent one says how long it is.
 impl Model for Short {
     ghost Value = { List ℕ };
 
@@ -30,14 +30,16 @@ impl Short {
     }
 
     pub fn as_bytes(&self) -> &[u8]
-        ensures { result.now ≡ self.now }
+        ensures value { result.now ≡ self.now }
+        ensures short { length self.now ≤ 64 }
     {
         self.bytes.as_slice()
     }
 
     // Puts `bytes` at the end; what passes 64 bytes is left out.
     pub fn push(&mut self, bytes: &[u8])
-        ensures { self.new ≡ take 64 (self.old ++ bytes.now) }
+        ensures after { self.new ≡ take 64 (self.old ++ bytes.now) }
+        ensures short { length self.old ≤ 64 }
     {
         let n = self.bytes.remaining_capacity().min(bytes.len());
         self.bytes.try_extend_from_slice(&bytes[..n]).unwrap();
@@ -45,7 +47,8 @@ impl Short {
 
     // Puts the decimal digits of `n` at the end.
     pub fn push_number(&mut self, n: u64)
-        ensures { self.new ≡ take 64 (self.old ++ decimal n) }
+        ensures after { self.new ≡ take 64 (self.old ++ decimal n) }
+        ensures short { length self.old ≤ 64 }
     {
         self.push(Buffer::new().format(n).as_bytes());
     }
@@ -54,6 +57,7 @@ impl Short {
     pub fn write_to(&self, out: &mut [u8]) -> Result<usize, Refusal>
         ensures answer { result ≡ (placed self.now out.old).0 }
         ensures after { out.new ≡ (placed self.now out.old).1 }
+        ensures short { length self.now ≤ 64 }
     {
         let text = self.as_bytes();
         let (front, _) = out

@@ -1,21 +1,12 @@
-use Rattle.std.proofs.Common.{◌≡◌, true, arith}
-use Rattle.text.specs.Decimal.{is_number}
-use Rattle.text.proofs.Decimals.{no_number, a_number, number_utf8, number_parses}
+use Rattle.std.proofs.Common.{◌≤◌, length, arith}
+use Rattle.std.proofs.lemmas.Bool.Decides.{nat_tests}
+use Rattle.text.proofs.Decimals.{no_number, spelled_by}
 use Rattle.text.proofs.number.read_number.Goals as goal
 
-pub returns-then-not-is_number : goal.returns-then-not-is_number
-returns-then-not-is_number c = no_number _ _ (cc)
-
-pub returns-in_err-ok : goal.returns-in_err-ok
-returns-in_err-ok c =
-    let is : is_number c.args.most c.args.digits.now ≡ true = cc in
-    let text = number_utf8 c.args.most c.args.digits.now is in
-    absurd (grind arith)
+pub returns-then-is_empty : goal.returns-then-is_empty
+returns-then-is_empty c = no_number _ _ (grind (arith, nat_tests))
 
 pub returns : goal.returns
 returns c =
-    let digits = c.args.digits.now in
-    let is : is_number c.args.most digits ≡ true = cc in
-    let text : c.in_ok-ok.field-0.now ≡ digits = grind arith in
-    let value = number_parses c.args.most digits c.parse.result is (rw text at c.parse.ensures.value.0) in
-    cc (a_number c.args.most digits is)
+    let some : 1 ≤ length c.args.digits.now = grind (arith, nat_tests) in
+    spelled_by _ _ _ some (omega arith) (cc) c.value.ensures
