@@ -1,6 +1,6 @@
 -- An item is read from its own text, and from no other. Assumes nothing.
 use Rattle.std.specs.Prelude.{◌≡◌, ℕ, zero, suc, ◌+◌, ◌^◌, ◌<◌, ◌≤◌, true, false, cond, List, ◌∷◌, ◌++◌, length, take, drop, ℤ, pos, negsuc, Some, None, decimal, Option, ◌==◌, ◌≢◌, slice_index, slice_index_or, refl}
-use Rattle.std.proofs.Common.{sym, ap, subst, ◌∙◌, ⊎_elim, add-one, arith, length-append}
+use Rattle.std.proofs.Common.{sym, ap, subst, ◌∙◌, ⊎_elim, add-one, arith, length-append, length-take}
 use Rattle.std.specs.Option.{option_map}
 use Rattle.std.specs.List.{position}
 use Rattle.std.specs.Fmt.{signed_decimal}
@@ -71,6 +71,18 @@ hit_both t h = at 1 _ (at 2 _ (at 3 None (λ e. absurd (grind arith))))
     at : (k : ℕ) (other : Option Hit) → (other ≡ Some h → (t ≡ hit_text h) × ThreeDigits h) → cond (slice_index t k == 44) (hit_behind k t) other ≡ Some h → (t ≡ hit_text h) × ThreeDigits h
     at k other rest = cond_both (slice_index t k == 44) (hit_behind k t) other (λ o. o ≡ Some h → (t ≡ hit_text h) × ThreeDigits h) (λ s. hit_parts k t h (eqb-true (slice_index t k) 44 s)) (λ s. rest)
 
+-- a hit has seven bytes at most
+pub no_long_hit : (t : List ℕ) → 7 < length t → None ≡ hit_of t
+no_long_hit t long = go (hit_of t) refl
+  where
+    go : (o : Option Hit) → hit_of t ≡ o → None ≡ o
+    go None e = refl
+    go (Some h) e =
+        let is = hit_both t h e in
+        let note = length-decimal-le 3 h.note (omega arith) is.1.0 (omega arith) in
+        let velocity = length-decimal-le 3 h.velocity (omega arith) is.1.1 (omega arith) in
+        absurd (omega (arith, simp length-append at (ap length is.0)))
+
 pub hit_only : (t : List ℕ) (h : Hit) → hit_of t ≡ Some h → t ≡ hit_text h
 hit_only t h e = (hit_both t h e).0
 
@@ -135,3 +147,11 @@ hit_at_split t a b is = go (position (λ b. b == 44) t) refl
     go : (o : Option ℕ) → o ≡ position (λ b. b == 44) t → hit_from (spelled 3 a) (spelled 3 b) ≡ hit_of t
     go None e = absurd (grind (arith, splits_at_first t 44))
     go (Some k) e = grind (arith, splits_at_first t 44, hit_at_comma t k e)
+
+-- the second part stands behind the first and the comma
+pub behind_comma : (t a b : List ℕ) (k : ℕ) → Some (a, b) ≡ split_once t 44 → length a + 1 ≡ k → drop k t ≡ b
+behind_comma t a b k is e = go (position (λ b. b == 44) t) refl
+  where
+    go : (o : Option ℕ) → o ≡ position (λ b. b == 44) t → drop k t ≡ b
+    go None p = absurd (grind (arith, splits_at_first t 44))
+    go (Some i) p = let at = position-Some (λ b. b == 44) t i 0 (sym p) in grind (arith, splits_at_first t 44, length-take {A = ℕ})

@@ -2,7 +2,7 @@
 ghost use Rattle.std.specs.Prelude.{◌≡◌, ℕ, ◌^◌, ◌<◌, ◌≤◌, List, IfSome, Some, Option};
 ghost use Rattle.std.specs.Fmt.{signed_decimal};
 ghost use Rattle.text.specs.Decimal.{spelled};
-ghost use Rattle.sheet.specs.Items.{sample_of, SevenDigits, hit_of, hit_text, ThreeDigits};
+ghost use Rattle.sheet.specs.Items.{sample_of, SevenDigits, hit_from, hit_of, hit_text, ThreeDigits};
 ghost use Rattle.sheet.specs.Spelt.{sample_own, sample_only, hit_own, hit_only};
 
 use statistic::hit::Hit;
@@ -59,13 +59,25 @@ impl ItemText for Hit {
 
     ghost only = { hit_only };
 
+    #[tactic(auto, using(crate::specs::Spelt::no_long_hit, crate::specs::Spelt::hit_at_split, crate::specs::Spelt::behind_comma))]
     fn read_item(text: &[u8]) -> Option<Hit> {
+        // three digits, a comma and three digits: in a longer text no comma is looked for
+        if text.len() > 7 {
+            return None;
+        }
         let (note, velocity) = split_once(text, b',')?;
-        Some(Hit {
-            note: number(3, note)? as u16,
-            velocity: number(3, velocity)? as u16,
-        })
+        hit(note, velocity)
     }
+}
+
+// The hit of a note and a velocity, each of 1 to 3 digits.
+fn hit(note: &[u8], velocity: &[u8]) -> Option<Hit>
+    ensures { result ≡ hit_from (spelled 3 note.now) (spelled 3 velocity.now) }
+{
+    Some(Hit {
+        note: number(3, note)? as u16,
+        velocity: number(3, velocity)? as u16,
+    })
 }
 
 // A number of so few digits that 32 bits hold it: it is cast, here and above, since a `try_from` could not fail. (A preset's two
