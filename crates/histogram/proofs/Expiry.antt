@@ -1,8 +1,8 @@
 -- What expiry keeps, one slot after another and as a whole. Assumes nothing.
-use Rattle.std.proofs.Common.{◌≡◌, ℕ, ◌+◌, ◌-◌, ◌≤◌, true, false, cond, leb, List, [], ◌∷◌, length, take, drop, sym, refl, ap, ◌∙◌, zero-add, one-add, arith, length-drop}
+use Rattle.std.proofs.Common.{◌≡◌, ℕ, ◌+◌, ◌-◌, ◌≤◌, true, false, cond, leb, List, [], ◌∷◌, length, take, drop, sym, refl, ap, ◌∙◌, zero-add, one-add, arith, length-drop, length-take}
 use lib.Seq.{paste}
 use Rattle.std.specs.List.{prefix_len}
-use Rattle.std.proofs.lemmas.List.{take_rest}
+use Rattle.std.proofs.lemmas.List.{drop-take, drop_all}
 use Rattle.std.proofs.lemmas.List.Edits.{take-paste}
 use Rattle.histogram.specs.declared.slot.Slot.{Slot}
 use Rattle.histogram.specs.Method.{unexpired}
@@ -27,9 +27,13 @@ module _ {S : Type 0} (Keeps : List (Slot S) → Type 0) (one_gone : (s t : Slot
       elim (leb t.start w) as (λ b. Keeps (cond b (unexpired w (t ∷ ts)) (s ∷ t ∷ ts)))
       [ true ↦ behind_expiry w (t ∷ ts) (one_gone s t ts h) | false ↦ h ]
 
--- the elements behind the first few, moved to the front
-pub moved_up : {X : Type 0} (xs : List X) (gone : ℕ) → take (length xs - gone) (paste xs 0 (drop gone xs) (length xs - gone)) ≡ drop gone xs
-moved_up xs gone =
-    let n = length xs - gone in
-    let left : n ≤ length (drop gone xs) = simp length-drop (omega arith) in
-    ap (λ j. take j (paste xs 0 (drop gone xs) n)) (sym (zero-add n)) ∙ take-paste xs 0 (drop gone xs) n (omega arith) left ∙ take_rest xs gone
+-- Of the first n elements, those behind the first few: where they are, and moved to the front.
+module _ {X : Type 0} (xs : List X) (n gone : ℕ) where
+  behind : take (n - gone) (drop gone xs) ≡ drop gone (take n xs)
+  behind = grind (arith, drop-take gone (n - gone) xs, drop_all gone (take n xs), length-take n xs)
+
+  pub moved_up : n ≤ length xs → take (n - gone) (paste xs 0 (drop gone xs) (n - gone)) ≡ drop gone (take n xs)
+  moved_up enough =
+      let k = n - gone in
+      let left : k ≤ length (drop gone xs) = simp length-drop (omega arith) in
+      ap (λ j. take j (paste xs 0 (drop gone xs) k)) (sym (zero-add k)) ∙ take-paste xs 0 (drop gone xs) k (omega arith) left ∙ behind

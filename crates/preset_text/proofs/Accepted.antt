@@ -1,5 +1,5 @@
 -- A text that is accepted is the one that is written for what it reads as.
-use Rattle.std.proofs.Common.{◌≡◌, ℕ, List, ◌++◌, length, take, IfOk, Some, Ok, Err, codes, decimal, Result, sym, refl, ap, append_assoc, append-nil, arith, length-append, Bor}
+use Rattle.std.proofs.Common.{◌≡◌, ℕ, ◌-◌, ◌≤◌, List, ◌++◌, length, take, drop, IfOk, Some, Ok, Err, codes, decimal, Result, sym, refl, ap, ◌∙◌, append_assoc, append-nil, arith, length-append, take_at, Bor}
 use Rattle.preset.specs.Questions.{view}
 use Rattle.preset_text.specs.Headed.{HeaderOf, headed}
 use Rattle.preset_text.specs.Reading.{given, behind, value_of, three_lines, answered, read_text, read_front, kept}
@@ -10,6 +10,7 @@ use Rattle.refusal.specs.declared.Refusal.{Refusal}
 use Rattle.refusal.specs.declared.Refusal.TheVariants.{NotThreeLines}
 use Rattle.std.specs.Str.{bytes_eq}
 use Rattle.std.proofs.lemmas.Slice.Eq.{bytes_eq-Decides, starts_is}
+use Rattle.std.proofs.lemmas.List.Prefix.{end_rest}
 use Rattle.std.proofs.lemmas.List.{nil_from_length}
 use Rattle.std.proofs.lemmas.Bool.Decides.{Decides-eqb}
 use Rattle.text.specs.Lines.{line}
@@ -48,18 +49,25 @@ whole_ok t q k p h g =
     cc (keyed_ok (codes "kind=") (codes "window=") (codes "loss=") t q h, said.0, said.1, said.2)
 
 -- what both readers answer of an accepted text is what would be written for it
-front_ok : (t : List ℕ) (k : Kind) (p : ℕ × ℕ) (rest : List ℕ) → read_front t ≡ Ok (k, p, rest) → t ≡ written k p ++ rest
+pub front_ok : (t : List ℕ) (k : Kind) (p : ℕ × ℕ) (rest : List ℕ) → read_front t ≡ Ok (k, p, rest) → t ≡ written k p ++ rest
 front_ok t k p rest h = grind (arith, whole_ok)
 
-read_ok : (t : List ℕ) (k : Kind) (p : ℕ × ℕ) → read_text t ≡ Ok (k, p) → t ≡ written k p
+pub read_ok : (t : List ℕ) (k : Kind) (p : ℕ × ℕ) → read_text t ≡ Ok (k, p) → t ≡ written k p
 read_ok t k p h = grind (arith, whole_ok, nil_from_length {X = ℕ}, append-nil (written k p))
 
 pub writes_back : (t : List ℕ) (r : Result Setup Refusal) → kept r ≡ read_text t → IfOk r (λ s. t ≡ written s.kind (view s.preset))
 writes_back t (Ok s) h = read_ok t s.kind (view s.preset) (sym h)
 writes_back t (Err e) h = tt
 
+-- the two parts of a text, each by the length of the second
+pub parted : (t front rest : List ℕ) → t ≡ front ++ rest → (length rest ≤ length t) × (drop (length t - length rest) t ≡ rest) × (take (length t - length rest) t ≡ front)
+parted t front rest e =
+    let long = ap length e ∙ length-append front rest in
+    let at : length front ≡ length t - length rest = omega arith in
+    (omega arith, end_rest t rest front e, ap (take (length t - length rest)) e ∙ take_at front rest (length t - length rest) at)
+
 pub headed_by : (t : List ℕ) (r : Result (Setup × Bor (List ℕ)) Refusal) → headed r ≡ read_front t → HeaderOf t r
 headed_by t (Ok (s, rest)) h =
     let parts = front_ok t s.kind (view s.preset) rest.now (sym h) in
-    record { value = h; writes_back = parts; within = omega (arith, simp length-append at (ap length parts)) }
+    record { value = h; writes_back = parts; within = (parted t (written s.kind (view s.preset)) rest.now parts).0 }
 headed_by t (Err e) h = record { value = h; writes_back = tt; within = tt }

@@ -1,5 +1,5 @@
 -- What is written reads as the setup that it was written for, and is short.
-use Rattle.std.proofs.Common.{◌≡◌, ℕ, ◌≤◌, true, List, [], ◌∷◌, ◌++◌, length, take, Some, Ok, codes, decimal, Result, refl, ap, ◌∙◌, append_assoc, append-nil, arith, length-append, take_all, drop_at}
+use Rattle.std.proofs.Common.{◌≡◌, ℕ, ◌≤◌, true, List, [], ◌∷◌, ◌++◌, length, take, IfOk, Some, Ok, codes, decimal, Result, refl, ap, ◌∙◌, append_assoc, append-nil, arith, length-append, take_all, drop_at}
 use Rattle.preset.specs.Questions.{view}
 use Rattle.preset_text.specs.Placed.{Wrote}
 use Rattle.preset_text.specs.Reading.{behind, value_of, three_lines, answered, read_text}
@@ -37,6 +37,10 @@ of_word Energy = (refl, refl, omega arith)
 of_word Peak = (refl, refl, omega arith)
 of_word Notes = (refl, refl, omega arith)
 
+-- what holds of a text holds of the front of the buffer that it was placed in
+pub placed_front : (P : List ℕ → Type 0) (t out : List ℕ) (r : Result ℕ Refusal) (after : List ℕ) → r ≡ (placed t out).0 → after ≡ (placed t out).1 → P t → IfOk r (λ n. P (take n after))
+placed_front P t out r after answer is h = grind (arith, common_steps)
+
 module _ (s : Setup) where
   pub read_written : read_text (written s.kind (view s.preset)) ≡ Ok (s.kind, view s.preset)
   unfolding written three_lines answered
@@ -55,7 +59,7 @@ module _ (s : Setup) where
         answer = cc;
         buffer = cc;
         short = written_short;
-        reads_back = grind (arith, common_steps, read_written);
+        reads_back = placed_front (λ u. read_text u ≡ Ok (s.kind, view s.preset)) t before r after answer buffer (ap read_text is ∙ read_written);
       }
 
 -- seven pieces that are put one behind the other

@@ -1,4 +1,5 @@
 use Rattle.std.proofs.Common.{◌≡◌, ◌-◌, length, take, drop, sym, ap, ◌∙◌, arith, length-drop}
+use lib.Seq.{take-length}
 use Rattle.std.proofs.lemmas.List.{take_rest}
 use Rattle.histogram.specs.Method.{unexpired}
 use Rattle.histogram.proofs.Expiry.{drop-passed, moved_up}
@@ -14,7 +15,7 @@ returns g c =
     let all : length c.if-gone-gt0.slots - gone ≡ n = omega arith in
     let front : take n c.if-gone-gt0.slots ≡ drop gone xs =
     elim c.if-gone-gt0.branch [
-      | then-gone-gt0 w ↦ ap (take n) (w.slots-is ∙ w.copy_within.ensures.after) ∙ moved_up xs gone
+      | then-gone-gt0 w ↦ ap (take n) (w.slots-is ∙ w.copy_within.ensures.after) ∙ moved_up xs (length xs) gone (omega arith) ∙ ap (drop gone) (take-length xs)
       | else-gone-gt0 w ↦ let none : 0 ≡ gone = omega arith in ap (take n) (w.slots-is ∙ ap (λ k. drop k xs) none) ∙ take_rest xs gone
     ] in
     record { left = all ∙ sym (length-drop gone xs) ∙ ap length rest; kept = ap (λ k. take k c.if-gone-gt0.slots) all ∙ front ∙ rest }
