@@ -15,6 +15,8 @@ fn near(cut: (u64, u64), older: u64, newer: u64) -> bool
 }
 
 // Prunes the slots by a cut, and answers how many are kept at the front. One pass, and each slot's value is worked out once.
+// (A function of its own in the program too: inside a large one, its loop keeps the anchor in memory and takes longer.)
+#[inline(never)]
 pub(crate) fn prune<T: Statistic>(slots: &mut [Slot<T::State>], cut: (u64, u64)) -> usize
     ensures within { result ≤ length slots.old }
     ensures left { result ≡ length (thinned (near_by T.Statistic.model cut) slots.old) }
